@@ -27,6 +27,7 @@ sized_but N cell s (x ∷ xs) [] h step l = absurd h
 sized_but N cell s (x ∷ xs) (u ∷ us) h zero l = let settled : SettlesBut N cell (bit x) (bit s) u = h.0 in settled.sized
 sized_but N cell s (x ∷ xs) (u ∷ us) h (suc step) l = sized_but N cell (next_state N NoFault u) xs us h.1 step (omega arith)
 
+-- a joint of alarm-secure parts is secure against any one failing cell, whichever cell of the joint fails
 pub alarm_secure_parts_join : AlarmSecurePartsJoin
 alarm_secure_parts_join M J is acyclic secure = record {
   one_run = λ w xs sized. one_run J.circuit NoFault w xs acyclic sized;

@@ -73,6 +73,7 @@ unate_fits S N P is = record {
   states = ap (λ n. if n == 0 then 1 else length P.states) is.plan.latchless;
 }
 
+-- what a synthesis makes of a network, in each way, fits that network
 pub network_fits : (way : Way) (S N : NetlistOf) (P : CodePlan) → IsNetlistOf way S N P → FitsSource (Network S.circuit) N.circuit P
 network_fits Parity S N P is = parity_fits S N P is
 network_fits Duplex S N P is = duplex_fits S N P is
@@ -88,6 +89,7 @@ record IsSecurelyFitting (M : Logic) (net : NetlistOf) (plan : CodePlan) : Type 
   cells : IsCellSecure M net.circuit plan
   secure : IsFaultSecure M net.circuit plan
 
+-- a text that is not refused for its bytes has no line with a bad one
 pub bytes_allowed : (text : List ℕ) → byte_refusal (bad_line text) ≡ None → bad_line text ≡ None
 bytes_allowed text none = by (bad_line text) none
   where

@@ -58,6 +58,7 @@ bytes_in_a_row n (b ∷ first) second none also = step (is_allowed b) none (λ l
     step true none later = later none
     step false none later = cc
 
+-- two texts without a bad byte have none in a row
 pub allowed_in_a_row : (first second : List ℕ) → bad_line first ≡ None → bad_line second ≡ None → bad_line (first ++ second) ≡ None
 allowed_in_a_row first second none also = bytes_in_a_row 1 first second none also
 
@@ -105,6 +106,7 @@ module _ (end : End) (first second : List TextLine) (ended : (section_of first 0
   end_place : position_or_len (is_end_line end) (first ++ second) ≡ position_or_len (is_end_line end) first
   end_place = first_place (λ line. not (is_end_line end line)) first second (omega (arith, ended))
 
+  -- the first section keeps its lines
   pub lines_kept : section_lines (first ++ second) (section_of (first ++ second) 0 end) ≡ section_lines first (section_of first 0 end)
   lines_kept =
       let count = position_or_len (is_end_line end) first in
@@ -113,6 +115,7 @@ module _ (end : End) (first second : List TextLine) (ended : (section_of first 0
       ∙ (take-append-le count first second (omega (arith, ended))
       ∙ sym (range_is first 0 count)))
 
+  -- where it ends with the first lines, what comes next begins right after them
   pub next_kept : length first ≤ (section_of first 0 end).next → (section_of (first ++ second) 0 end).next ≡ length first
   next_kept whole =
       let count = position_or_len (is_end_line end) first in
@@ -141,6 +144,7 @@ module _ (more : ℕ) (first second : List TextLine) where
   pub second_net : net_from both_lines (length first) ≡ first_net second
   second_net = ap (λ lines. netlist_of (named_text lines)) second_lines ∙ ap netlist_of (named_moved more (first_lines second))
 
+  -- the plan that it states is the one that it stated alone
   pub second_plan : plan_from both_lines (length first) ≡ first_plan second
   second_plan =
       ap₂ (λ lines net. unwrap_or (plan_text Netlist lines net) no_plan) second_lines second_net
@@ -207,6 +211,7 @@ pub record IsKept (format : SourceFormat) (first second : List TextLine) : Type 
   pub source : source_of format (first ++ second) ≡ source_of format first
   pub ends : behind_source format (first ++ second) ≡ length first
 
+-- a network that nothing refuses and that has its end line is kept where more lines follow
 pub network_kept : (first second : List TextLine) → lines_refusal Source first ≡ None → (section_of first 0 BlifEnd).past < length first
     → IsKept Blif first second
 network_kept first second allowed ended =

@@ -122,6 +122,7 @@ module _ (more : ℕ) where
       (by_kind (λ k. nodes_at k (moved_line more line) (moved more lines)) (λ k. nodes_at k line lines)
       refl refl refl refl (ap (λ n. n ∷ []) (node_moved line lines)) refl refl refl (kind_of line)) (nodes_moved lines)
 
+  -- lines with other numbers are the same netlist by names
   pub named_moved : (lines : List TextLine) → named_text (moved more lines) ≡ named_text lines
   named_moved lines =
       let model = model_moved (codes "model") lines in
@@ -213,6 +214,7 @@ module _ (more : ℕ) where
         ∙ (ap (λ groups. stated (checks_for code lines) groups (state_words (moved more lines))) (groups_moved code net lines)
         ∙ ap (λ words. stated (checks_for code lines) (groups_for code net lines) words) (state_words_moved lines))
 
+    -- they state the same plan of a netlist
     pub plan_moved : (lines : List TextLine) → plan_text Netlist (moved more lines) net ≡ plan_text Netlist lines net
     plan_moved lines = ap (λ head. plan_at head (moved more lines) net) (code_line_moved lines) ∙ by_head (code_line lines)
       where
@@ -315,6 +317,7 @@ module _ (more : ℕ) where
   of_line_none None e = refl
   of_line_none (Some found) e = cc
 
+  -- where nothing refuses the lines as a netlist with its plan, nothing does with other numbers
   pub refusal_moved : (lines : List TextLine) → refusal Netlist lines ≡ None → refusal Netlist (moved more lines) ≡ None
   refusal_moved lines allowed =
       let named = named_text lines in

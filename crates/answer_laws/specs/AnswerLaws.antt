@@ -1,4 +1,4 @@
--- What a synthesis answers is read by the other commands, and accepted by an audit behind its source; test vectors are determined by
+-- What a synthesis answers is read by the other commands, and accepted by an audit after its source; test vectors are determined by
 -- the text; and three wrong answers: the statements of the laws.
 use Rattle.std.specs.Prelude.{◌≡◌, ◌↔◌, ◌<◌, ◌≤◌, ℕ, List, [], ◌∷◌, ◌++◌, length, codes, Option, None}
 use Rattle.tsc_text.specs.Joined.{HasNoOpenLine}
@@ -44,7 +44,7 @@ MachineAnswersAreRead = (code : Code) (text answer : List ℕ) → IsMachineSynt
 abbrev pub LooseAnswersAreRead : Type 0
 LooseAnswersAreRead = (way : Way) (text answer : List ℕ) → IsLooseSynthesis way text answer → IsReadByAll answer
 
--- behind this source another section can stand in one text: the text ends in an LF behind a line that doesn't go on, and the source's
+-- after this source another section can stand in one text: the text ends in an LF after a line that doesn't go on, and the source's
 -- own end line is there
 pub record IsEndedSource (end : End) (text : List ℕ) : Type 0 where
   pub body : List ℕ
@@ -60,7 +60,7 @@ pub record IsAcceptedBehind (format : SourceFormat) (text answer : List ℕ) : T
   pub exact : IsAnswer (AuditExact format) (text ++ answer) (codes "yes" ++ 10 ∷ [])
   pub exact_never_no : (reply : List ℕ) → IsNo (AuditExact format) (text ++ answer) reply → ⊥
 
--- what a synthesis answers is accepted behind its source, where that has an end line and at most 1,048,576 points
+-- what a synthesis answers is accepted after its source, where that has an end line and at most 1,048,576 points
 abbrev pub AnswersAreAccepted : Type 0
 AnswersAreAccepted = (way : Way) (text answer : List ℕ) → text_refusal Source text ≡ None → IsEndedSource BlifEnd text
     → audit_points (source_in Blif text) ≤ 1048576 → IsSynthesis way text answer → IsAcceptedBehind Blif text answer
@@ -91,7 +91,7 @@ OneVectorList = (text answer other : List ℕ) → IsVectorList text answer → 
 abbrev pub VerdictsAreRight : Type 0
 VerdictsAreRight = (N : Circuit) (P : CodePlan) (tests : List (Option Point)) → AreTests N P tests → (untestable tests ≡ 0) ↔ IsSelfTesting N P
 
--- an answer for a network whose output is 0, but for its output, which reads a name that nothing drives: as numbers, a net past the
+-- an answer for a network whose output is 0, except for its output, which reads a name that nothing drives: as numbers, a net past the
 -- end would be 0, and all would be right
 abbrev pub undriven_answer : List ℕ
 undriven_answer = with_feeds (
@@ -115,7 +115,7 @@ abbrev pub two_states : List ℕ
 two_states = with_feeds (
     codes ".i 1" ∷ codes ".o 1" ∷ codes "0 A A 0" ∷ codes "1 A B 1" ∷ codes "0 B B 0" ∷ codes "1 B A 1" ∷ codes ".e" ∷ [])
 
--- its netlist under an m-out-of-n code, but for the first bits of its two latches: they hold the word of the second state
+-- its netlist under an m-out-of-n code, except for the first bits of its two latches: they hold the word of the second state
 abbrev pub late_answer : List ℕ
 late_answer = with_feeds (
     codes ".model machine" ∷ codes ".inputs i0" ∷ codes ".outputs o0 t0_5 t0_6" ∷ codes "#tsc 2 mofn"

@@ -1,4 +1,4 @@
--- What stands behind the report of `make`: the statement of the law on it.
+-- What backs the report of `make`: the statement of the law on it.
 use Rattle.std.specs.Prelude.{◌≡◌, ◌≤◌, ℕ, List, length, None}
 use Rattle.fault_secure.specs.declared.code.Code.TheVariants.{Berger}
 use Rattle.fault_secure.specs.CodePlan.{monitored}

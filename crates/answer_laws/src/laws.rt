@@ -40,8 +40,8 @@ pub fn loose_answers_are_read()
     ensures read { LooseAnswersAreRead }
 {}
 
-/// A law: what a synthesis answers to a network is accepted by an audit behind that network, where this has its own end line, an LF
-/// behind it, and at most 1,048,576 points: the audit refuses nothing, and answers `yes` and never `no`.
+/// A law: what a synthesis answers to a network is accepted by an audit after that network, where this has its own end line, an LF
+/// after it, and at most 1,048,576 points. The audit refuses nothing, and answers `yes` and never `no`.
 pub fn answers_are_accepted()
     ensures accepted { AnswersAreAccepted }
 {}
@@ -79,14 +79,14 @@ pub fn wrong_answers_are_refused()
     ensures wide { IsNoSynthesis wide_answer }
 {}
 
-/// A law: an answer to a machine whose latches hold another state's word at first is no synthesis of it, though it is one but for
-/// these two bits.
+/// A law: an answer to a machine whose latches hold another state's word at first is no synthesis of it, though it is one except
+/// for these two bits.
 pub fn wrong_machine_answers_are_refused()
     ensures late { IsNoSynthesisOf two_states late_answer }
 {}
 
-/// A law: what `make` prints is backed. Nothing refuses the text of a number; and whatever a synthesis under the Berger code answers to it
-/// has the printed checks, latches and length of the word and at most the printed bound on covers, and an audit of both texts in a row
+/// A law: what `make` prints is backed. Nothing refuses the text of a number. Whatever a synthesis under the Berger code answers to it
+/// has the printed checks, latches and length of the word, and at most the printed bound on covers. An audit of both texts in a row
 /// answers `yes` and never `no`.
 pub fn made_reports_are_backed()
     ensures allowed { MadeTextsAreAllowed }

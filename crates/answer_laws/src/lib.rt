@@ -1,7 +1,7 @@
-//! Laws on what the commands answer: answers are read again, and accepted by an audit behind their source; wrong answers are none.
+//! Laws on what the commands answer: answers are read again, and accepted by an audit after their source; wrong answers are none.
 //! It has no type of its own: each law is a public function without a body.
 //! It stands on `text_sections`, `netlist_answers`, `answers` and `made_report`, whose definitions it speaks of.
-//! Its main promise: whatever `synth` answers is a netlist that the other commands read, and an audit of it behind its source answers `yes`.
+//! Its main promise: whatever `synth` answers is a netlist that the other commands read, and an audit of it after its source answers `yes`.
 //! Its definitions are in `specs/`: AnswerLaws, MadeLaws, LooseTexts.
 #![tactic(auto)]
 

@@ -43,10 +43,12 @@ sound M N P planned is = record {
   checker = disjoint N P planned is.checker;
 }
 
+-- an accepted netlist is secure for its source, against any one failing cell and against each listed fault
 pub accepted_is_secure : AcceptedIsSecure
 accepted_is_secure M N P planned is =
     (sound_is_cell_secure M N P (sound M N P planned is) is.before.follows, sound_is_fault_secure M N P (sound M N P planned is) is.before.follows)
 
+-- a self-checking netlist that fits its source is accepted
 pub self_checking_is_accepted : SelfCheckingIsAccepted
 self_checking_is_accepted M N P is fits = record {
   before = record {

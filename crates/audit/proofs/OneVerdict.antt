@@ -172,5 +172,6 @@ module _ (M : Logic) (N : Circuit) (P : CodePlan) (of : IsPlanOf N P) (made : Is
       sym (and_back first) ∙ ap verdict_of (one_outcome (outcome_of first) (outcome_of second) (is_outcome M N P first is) (is_outcome M N P second other))
       ∙ and_back second
 
+-- of a source and a netlist with a well-made plan of it there is at most one verdict: two are the same
 pub one_verdict : OneVerdict
 one_verdict M N P first second of made is other = the_same M N P of made first second is other

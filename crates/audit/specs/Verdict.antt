@@ -52,13 +52,15 @@ pub record IsAccepted (M : Logic) (N : Circuit) (P : CodePlan) : Type 0 where
   pub before : Behaves M N P
   pub checker : IsCheckerAnswer N P None
 
--- the first condition that doesn't hold is one of the structure, of the behaviour, of the checker
+-- the first condition that doesn't hold is this one of the structure
 abbrev pub BreaksStructure : Logic → Circuit → CodePlan → StructureReason → Type 0
 BreaksStructure M N P why = FitsSource M N P × IsStructureAnswer N P (Some why)
 
+-- the first condition that doesn't hold is this one of the behaviour
 abbrev pub BreaksBehaviour : Logic → Circuit → CodePlan → BehaviourReason → Type 0
 BreaksBehaviour M N P why = HasStructure M N P × IsBehaviourAnswer M N P (Some why)
 
+-- the first condition that doesn't hold is this one of the checker
 abbrev pub BreaksChecker : Logic → Circuit → CodePlan → CheckerReason → Type 0
 BreaksChecker M N P why = Behaves M N P × IsCheckerAnswer N P (Some why)
 

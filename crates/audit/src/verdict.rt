@@ -14,8 +14,8 @@ pub enum Shape {
 }
 
 /// Why an audit says no: the first condition that doesn't hold. Nodes are by the nets that they drive; a state is its place in the
-/// plan's list, 0 without latches; an input is a number, a bit an input, the first one most significant. Groups, pins and bits count
-/// from 0.
+/// plan's list, 0 without latches; an input is a number, with one bit per input of the netlist, the first one most significant. Groups,
+/// pins and bits count from 0.
 #[derive(Clone, Copy, Debug, PartialEq, Eq)]
 pub enum Reason {
     /// The netlist has another number of these than its source.

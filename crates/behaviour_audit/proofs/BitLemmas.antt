@@ -35,11 +35,13 @@ clip zero x = []
 clip (suc n) [] = false ∷ clip n []
 clip (suc n) (b ∷ x) = b ∷ clip n x
 
+-- so many bits they are
 pub length-clip : (n : ℕ) (x : List Bool) → length (clip n x) ≡ n
 length-clip zero x = refl
 length-clip (suc n) [] = ap suc (length-clip n [])
 length-clip (suc n) (b ∷ x) = ap suc (length-clip n x)
 
+-- each of these bits is the one that the list has there
 pub bit-clip : (n : ℕ) (x : List Bool) (k : ℕ) → k < n → bit (clip n x) k ≡ bit x k
 bit-clip zero x k inside = absurd (omega arith)
 bit-clip (suc n) [] zero inside = refl

@@ -142,5 +142,6 @@ module _ (M : Logic) (N : Circuit) (P : CodePlan) (of : IsPlanOf N P) (made : Is
   the_same (Some a) None first second = absurd (none_or_some a second first)
   the_same (Some a) (Some b) first second = ap (λ (r : BehaviourReason). Some r) (one_reason a b first second)
 
+-- of a source and a netlist with a well-made plan of it there is at most one answer: two are the same
 pub one_answer : OneAnswer
 one_answer M N P a b of made first second = the_same M N P of made a b first second

@@ -94,7 +94,7 @@ fn first_bits(alloc: Global, net: &Netlist) -> Result<Bits, AllocError>
     Ok(bits)
 }
 
-/// The first reason behind the reset state, if there is one.
+/// The first reason after the reset state, if there is one.
 fn reason_of(trial: &mut Trial, room: &mut Room, audited: &Audited) -> Option<BehaviourReason>
     requires trial { IsTrialOf audited.now trial.old }
     requires room { IsRoomOf audited.now room.old }

@@ -9,7 +9,7 @@ use lane_sim::word_of;
 use tsc_cover::bit_at;
 use tsc_net::Plan;
 
-/// Whether the word is a codeword of the plan. `lanes` has room for a lane a place of the word, and is written over.
+/// Whether the word is a codeword of the plan. `lanes` has room for one lane per place of the word, and is written over.
 pub(crate) fn is_codeword(plan: &Plan, word: &[bool], lanes: &mut Lanes) -> bool
     requires sized { length word.now ≡ (plan.now.outputs + length plan.now.checks) + plan.now.latches }
     requires room { length lanes.old ≡ length word.now }

@@ -1,4 +1,4 @@
-//! At which of 64 points, one behind another, a machine leaves its next state free.
+//! At which of 64 points, one after another, a machine leaves its next state free.
 ghost use Rattle.std.specs.Prelude.{◌≡◌, ◌+◌, ◌/◌, ◌%◌, ◌<◌, ◌≤◌, ◌^◌, true, false, IsTrue};
 ghost use Rattle.tsc_bits.specs.Bits.{bits_of};
 ghost use Rattle.fault_secure.specs.Logic.{answering, is_free_next};

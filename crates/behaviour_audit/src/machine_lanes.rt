@@ -1,4 +1,4 @@
-//! What a machine allows at 64 points, one behind another: an output is a lane, and a row the points at which it answers.
+//! What a machine allows at 64 points, one after another: an output is a lane, and a row the points at which it answers.
 ghost use Rattle.std.specs.Prelude.{◌≡◌, ◌+◌, ◌/◌, ◌%◌, ◌≤◌, ◌^◌, true, length};
 ghost use Rattle.tsc_bits.specs.Bits.{bit_worth, bits_of};
 ghost use Rattle.fault_secure.specs.Logic.{States, AllowsOutputs};

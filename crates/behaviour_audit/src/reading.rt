@@ -68,7 +68,7 @@ pub(crate) fn read_outputs(
     read_nets(&watch.bench, watch.nets.as_slice(), slot, outputs);
 }
 
-/// Reads the words of the steps that a settled bench shows at 64 slots, a lane a monitored net.
+/// Reads the words of the steps that a settled bench shows at 64 slots, one lane per monitored net.
 pub(crate) fn read_words(watch: &Watch, net: &Netlist, plan: &Plan, word: usize, lanes: &mut Lanes)
     requires watch { IsWatchOf net.now.circuit watch.now }
     requires settled { IsSome watch.now.bench.lanes }
@@ -82,7 +82,7 @@ pub(crate) fn read_words(watch: &Watch, net: &Netlist, plan: &Plan, word: usize,
     read_lanes(&watch.bench, watch.nets.as_slice(), word, lanes);
 }
 
-/// Reads the outputs that a settled bench of a network shows at 64 slots, a lane an output.
+/// Reads the outputs that a settled bench of a network shows at 64 slots, one lane per output.
 pub(crate) fn read_output_lanes(watch: &Watch, net: &Netlist, word: usize, lanes: &mut Lanes)
     requires watch { IsWatchOf net.now.circuit watch.now }
     requires settled { IsSome watch.now.bench.lanes }

@@ -1,7 +1,7 @@
 //! Why a netlist doesn't follow its source.
 
 /// The first reason why a netlist, without a fault, doesn't follow its source. A state is its place in the plan's list (0 without
-/// latches); an input is a number, a bit an input, the first input most significant.
+/// latches); an input is a number, with one bit per input of the netlist, the first one most significant.
 #[derive(Clone, Copy, Debug, PartialEq, Eq)]
 pub enum BehaviourReason {
     /// The bits that the latches hold first aren't the reset state's word.

@@ -1,4 +1,4 @@
-//! Which of 64 points, one behind another, a row of a machine answers.
+//! Which of 64 points, one after another, a row of a machine answers.
 ghost use Rattle.std.specs.Prelude.{◌≡◌, ◌≢◌, ◌+◌, ◌/◌, ◌%◌, ◌<◌, ◌≤◌, ◌^◌, bit_and, bit_xor, IsTrue};
 ghost use Rattle.tsc_bits.specs.Bits.{bit_worth, bits_of};
 ghost use Rattle.tsc_cover.specs.Cover.{accepts, literals, row_matches};

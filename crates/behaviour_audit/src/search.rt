@@ -197,7 +197,7 @@ fn next_reason(audited: &Audited, point: Point, word: &[bool]) -> Option<Behavio
     }
 }
 
-/// The reason of a point whose word or whose outputs are wrong. `lanes` has room for a lane a monitored net, and is written over.
+/// The reason of a point whose word or whose outputs are wrong. `lanes` has room for one lane per monitored net, and is written over.
 fn shown_reason(
     audited: &Audited,
     point: Point,

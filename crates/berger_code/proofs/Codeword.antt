@@ -21,6 +21,7 @@ one_width k v w h j =
     let high : w ≤ v = j.1 v h.0 in
     omega arith
 
+-- outputs, the number of their zeros in binary, and any further bits are a word that has its Berger check
 pub word_checked : (P : CodePlan) (outputs next : List Bool) → length outputs ≡ P.outputs → IsBergerWidth P.outputs (length P.checks) → IsChecked Berger P ((outputs ++ bits_of (length P.checks) (zeros outputs)) ++ next)
 word_checked P outputs next sized width =
     let checks : List Bool = bits_of (length P.checks) (zeros outputs) in

@@ -20,7 +20,7 @@ fn turned(alloc: Global, bits: &[Line]) -> Result<LineList, AllocError>
 }
 
 /// Adds the check of 1 to 64 outputs: the lines of their number of zeros in binary, as many as `berger_width`, the
-/// most significant first. At most 13 gates an output come, also where memory is missing; all earlier gates stay.
+/// most significant first. At most 13 gates per output come, also where memory is missing; all earlier gates stay.
 ///
 /// # Errors
 ///

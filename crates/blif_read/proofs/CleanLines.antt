@@ -22,10 +22,12 @@ use Rattle.blif_read.proofs.NameLimits.{limit_in_fits}
 use Rattle.blif_read.proofs.RowWalk.{and_left}
 use Rattle.tsc_text.proofs.Stored.{length-slice_range}
 
+-- where the first fault from a line on is none, that line has none
 pub no_fault_here : (x : Option Cause) (line : TextLine) (later : Option LineFault) → fault_or x line later ≡ None → x ≡ None
 no_fault_here None line later e = refl
 no_fault_here (Some cause) line later e = cc
 
+-- where the first fault from a line on is none, the later lines have none
 pub no_fault_later : (x : Option Cause) (line : TextLine) (later : Option LineFault) → fault_or x line later ≡ None → later ≡ None
 no_fault_later None line later e = e
 no_fault_later (Some cause) line later e = cc
@@ -94,6 +96,7 @@ latch_line kind seen line e =
     by true e = refl
     by false e = cc
 
+-- lines without a fault, after what was seen, are clean
 pub are_clean : (kind : Kind) (lines : List TextLine) (seen : Seen) → first_fault_after kind seen lines ≡ None → AreClean lines
 are_clean kind [] seen f = tt
 are_clean kind (line ∷ lines) seen f =

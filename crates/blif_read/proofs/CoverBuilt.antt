@@ -11,6 +11,7 @@ use Rattle.blif_read.specs.declared.kinds.LineKind.{LineKind}
 use Rattle.blif_read.specs.declared.kinds.LineKind.TheVariants.{PlanLine, Row}
 use Rattle.blif_read.proofs.RowWalk.{closed_at}
 
+-- the literals of a row's input
 abbrev pub row_literals : TextLine → List Literal
 row_literals row = literals_of_text (input_of row.words)
 

@@ -46,6 +46,7 @@ limit_in_fits which most count bound (name ∷ names) h k e =
         let r : (count + 1) + length names ≤ bound = rest (omega arith) e in
         omega arith
 
+-- where there is no fault of a limit, no limit is passed
 pub limit_none : (which : Option Which) → limit which ≡ None → which ≡ None
 limit_none None e = refl
 limit_none (Some which) e = cc

@@ -17,8 +17,10 @@ none_both None None plan e = (refl, refl)
 none_both None (Some net) plan e = cc
 none_both (Some line) net plan e = cc
 
+-- where the section isn't refused, no line of it has a fault
 pub no_line_fault : (kind : Kind) (lines : List TextLine) → refusal kind lines ≡ None → first_fault kind lines ≡ None
 no_line_fault kind lines e = (none_both (first_fault kind lines) (fault_of (named_text lines)) (refusal_of_plan kind lines) e).0
 
+-- where the section isn't refused, the netlist that its lines name has no fault
 pub no_net_fault : (kind : Kind) (lines : List TextLine) → refusal kind lines ≡ None → fault_of (named_text lines) ≡ None
 no_net_fault kind lines e = (none_both (first_fault kind lines) (fault_of (named_text lines)) (refusal_of_plan kind lines) e).1

@@ -57,6 +57,7 @@ get_or-map f [] k d e h = absurd (omega arith)
 get_or-map f (x ∷ xs) zero d e h = refl
 get_or-map f (x ∷ xs) (suc k) d e h = get_or-map f xs k d e (omega arith)
 
+-- one item more at the end of a list stands at the place that is the list's length
 pub get_or-last : (xs : List (List ℕ)) (x : List ℕ) → get_or (xs ++ x ∷ []) (length xs) [] ≡ x
 get_or-last [] x = refl
 get_or-last (y ∷ xs) x = get_or-last xs x
@@ -324,6 +325,7 @@ pub record KeepsAll (code : Code) (lines : List TextLine) (net : NetlistOf) : Ty
   pub checks : has_checks_for code (source_outputs net) (groups_for code net lines) (length (checks_for code lines)) ≡ true
   pub fit : HasFit (length net.circuit.latches) (state_words lines)
 
+-- where the test of the plan's rules passes, each of them holds
 pub keeps_all : (code : Code) (lines : List TextLine) (net : NetlistOf) → is_right code lines net ≡ true → KeepsAll code lines net
 keeps_all code lines net e =
     let sizes = and_left ((nat_le 3 (length net.circuit.outputs) && nat_le (length net.circuit.outputs) 66) && nat_le (length net.circuit.latches) 64)

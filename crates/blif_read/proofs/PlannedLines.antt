@@ -55,6 +55,7 @@ planned_after (line ∷ lines) seen e = (
   planned_after lines (seen_behind seen (kind_of line) line) (no_fault_later (fault_of Netlist seen (kind_of line) line) line (first_fault_after Netlist (seen_behind seen (kind_of line) line) lines) e),
 )
 
+-- where neither a line nor the netlist is refused, each group has an output and each state only bits
 pub planned_section : (lines : List TextLine) → netlist_refusal Netlist lines ≡ None → ArePlanned lines
 planned_section lines e =
     planned_after lines (seen_of []) (sym (first_fault_is Netlist [] lines) ∙ by (first_fault Netlist lines) e)

@@ -54,6 +54,7 @@ pub record HasPins (width : ℕ) (words : List (List ℕ)) : Type 0 where
   pub text : is_row_text (get_or words 0 []) ≡ true
   pub input : input_of words ≡ get_or words 0 []
 
+-- a row of the shape that a cover with pins asks for has two words, and its input has one character per pin
 pub row_with_pins : (width : ℕ) (words : List (List ℕ)) → has_row_shape width words ≡ true → 0 < width → HasPins width words
 row_with_pins width [] e h = cc
 row_with_pins width (output ∷ []) e h =
@@ -72,6 +73,7 @@ row_with_pins width (input ∷ output ∷ []) e h =
     }
 row_with_pins width (input ∷ output ∷ word ∷ words) e h = cc
 
+-- a row of the shape that a cover without pins asks for has no input
 pub row_without_pins : (words : List (List ℕ)) → has_row_shape 0 words ≡ true → input_of words ≡ []
 row_without_pins [] e = refl
 row_without_pins (output ∷ []) e = refl

@@ -16,6 +16,7 @@ use Rattle.blif_read.specs.declared.seen.Seen.{Seen}
 use Rattle.std.proofs.lemmas.List.{drop_all, drop_more}
 use Rattle.blif_read.proofs.NameLimits.{limit_in_fits, limit_none}
 
+-- the first fault of lines after others is the first by what was seen in those others
 pub first_fault_is : (kind : Kind) (back lines : List TextLine)
     → first_fault_behind kind back lines ≡ first_fault_after kind (seen_of back) lines
 first_fault_is kind back [] = refl

@@ -56,6 +56,7 @@ model_short seen line e = by seen.has_model (nat_lt 1 (name_count line)) (is_lon
 
 -- what holds of each word that isn't of a plan line holds of each name
 module _ (P : List ℕ → Type 0) where
+  -- P holds of the name, and the name is short
   abbrev pub IsShortName : List ℕ → Type 0
   IsShortName name = P name × IsShort name
 

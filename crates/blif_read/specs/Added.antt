@@ -22,7 +22,7 @@ with_latch N latch = record N { latches = N.latches ++ latch ∷ [] }
 abbrev pub with_node : Named → NamedNode → Named
 with_node N node = record N { nodes = N.nodes ++ node ∷ [] }
 
--- the netlist with what a line of this kind gives, before the lines behind it
+-- the netlist with what a line of this kind gives, before the lines after it
 abbrev pub with_line : Named → LineKind → TextLine → List TextLine → Named
 with_line N Model line behind = with_model_name N (name_or N.model (names_of line))
 with_line N Inputs line behind = with_inputs N (names_of line)

@@ -11,7 +11,7 @@ abbrev pub AreShaped : ℕ → List TextLine → Type 0
 AreShaped width [] = Unit {0}
 AreShaped width (row ∷ rows) = (has_row_shape width row.words ≡ true) × AreShaped width rows
 
--- a line of `.names` has a net and at most 64 pins, and the rows behind it fit it
+-- a line of `.names` has a net and at most 64 pins, and the rows after it fit it
 pub record IsCleanNode (line : TextLine) (behind : List TextLine) : Type 0 where
   pub some : 2 ≤ length line.words
   pub few : length line.words ≤ 66

@@ -26,9 +26,11 @@ most_name_bytes = 255
 abbrev pub most_inputs : ℕ
 most_inputs = 1024
 
+-- the greatest number of pins of a line of `.names`
 abbrev pub most_pins : ℕ
 most_pins = 64
 
+-- the greatest number of latches
 abbrev pub most_latches : ℕ
 most_latches = 64
 
@@ -38,6 +40,7 @@ most_outputs Source = 64
 most_outputs Netlist = 66
 most_outputs Unplanned = 66
 
+-- the greatest number of nodes
 abbrev pub most_nodes : Kind → ℕ
 most_nodes Source = 16384
 most_nodes Netlist = 1048576
@@ -58,6 +61,7 @@ abbrev pub first_of : Option Which → Option Which → Option Which
 first_of None second = second
 first_of (Some which) second = Some which
 
+-- the fault that this limit is passed, where there is one
 abbrev pub limit : Option Which → Option Cause
 limit None = None
 limit (Some which) = Some (Limit which)
@@ -100,6 +104,7 @@ shaped_latch_fault Source seen line = Some LatchInSource
 shaped_latch_fault Netlist seen line = if has_init line then limit (latch_limit seen line) else Some LatchInit
 shaped_latch_fault Unplanned seen line = if has_init line then limit (latch_limit seen line) else Some LatchInit
 
+-- the fault of a line of `.latch`: that of a line with its shape, and without the shape `WordCount`
 abbrev pub latch_fault : Kind → Seen → TextLine → Option Cause
 latch_fault kind seen line = if has_latch_shape line then shaped_latch_fault kind seen line else Some WordCount
 
@@ -131,6 +136,6 @@ fault_of kind seen Latch line = latch_fault kind seen line
 fault_of kind seen OtherDirective line = Some Unsupported
 fault_of kind seen Row line = row_fault seen.cover line
 
--- the fault of a line behind these lines, the nearest first
+-- the fault of a line after these lines, the nearest first
 abbrev pub fault_behind : Kind → List TextLine → TextLine → Option Cause
 fault_behind kind back line = fault_of kind (seen_of back) (kind_of line) line

@@ -9,12 +9,12 @@ use Rattle.blif_read.specs.declared.cause.Cause.{Cause}
 use Rattle.blif_read.specs.declared.cause.LineFault.{LineFault}
 use Rattle.blif_read.specs.declared.seen.Seen.{Seen}
 
--- the fault of a line, or else one behind it
+-- the fault of a line, or else one after it
 abbrev pub fault_or : Option Cause → TextLine → Option LineFault → Option LineFault
 fault_or None line later = later
 fault_or (Some cause) line later = Some (record { line = line.number; cause = cause })
 
--- the first fault of the lines, which stand behind these, the nearest first
+-- the first fault of the lines, which stand after these, the nearest first
 abbrev pub first_fault_behind : Kind → List TextLine → List TextLine → Option LineFault
 first_fault_behind kind back [] = None
 first_fault_behind kind back (line ∷ lines) = fault_or (fault_behind kind back line) line (first_fault_behind kind (line ∷ back) lines)
@@ -23,7 +23,7 @@ first_fault_behind kind back (line ∷ lines) = fault_or (fault_behind kind back
 abbrev pub first_fault : Kind → List TextLine → Option LineFault
 first_fault kind lines = first_fault_behind kind [] lines
 
--- the same, of lines behind others of which so much is seen
+-- the same, of lines after others of which so much is seen
 abbrev pub first_fault_after : Kind → Seen → List TextLine → Option LineFault
 first_fault_after kind seen [] = None
 first_fault_after kind seen (line ∷ lines) =

@@ -20,7 +20,7 @@ kind_of_word word =
 abbrev pub kind_of : TextLine → LineKind
 kind_of line = if line.is_plan then PlanLine else kind_of_word (the_word line 0)
 
--- the names of a line of names: all its words but the first
+-- the names of a line of names: all its words except the first
 abbrev pub names_of : TextLine → List (List ℕ)
 names_of line = drop 1 line.words
 
@@ -28,7 +28,7 @@ names_of line = drop 1 line.words
 abbrev pub name_count : TextLine → ℕ
 name_count line = length line.words - 1
 
--- the pins of a line of `.names`: all its names but the last
+-- the pins of a line of `.names`: all its names except the last
 abbrev pub pins_of : TextLine → List (List ℕ)
 pins_of line = slice_range line.words 1 (length line.words - 1)
 

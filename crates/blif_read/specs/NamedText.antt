@@ -13,6 +13,7 @@ abbrev pub input_names : LineKind → TextLine → List (List ℕ)
 input_names Inputs line = names_of line
 input_names _ line = []
 
+-- the names that a line of this kind adds to the outputs
 abbrev pub output_names : LineKind → TextLine → List (List ℕ)
 output_names Outputs line = names_of line
 output_names _ line = []
@@ -21,14 +22,16 @@ output_names _ line = []
 abbrev pub latch_at : TextLine → NamedLatch
 latch_at line = record { reads = the_word line 1; out = the_word line 2; init = bytes_eq (the_word line (length line.words - 1)) (codes "1") }
 
+-- the latches that a line of this kind adds
 abbrev pub latches_at : LineKind → TextLine → List NamedLatch
 latches_at Latch line = latch_at line ∷ []
 latches_at _ line = []
 
--- a node reads its pins and drives its net, by the cover of the rows among the lines behind it up to the next directive
+-- a node reads its pins and drives its net, by the cover of the rows among the lines after it up to the next directive
 abbrev pub node_at : TextLine → List TextLine → NamedNode
 node_at line behind = record { reads = pins_of line; out = net_of line; cover = cover_with (width_of line) (rows_of behind) }
 
+-- the nodes that a line of this kind adds, with the lines after it
 abbrev pub nodes_at : LineKind → TextLine → List TextLine → List NamedNode
 nodes_at Names line behind = node_at line behind ∷ []
 nodes_at _ line behind = []
@@ -38,6 +41,7 @@ abbrev pub name_or : List ℕ → List (List ℕ) → List ℕ
 name_or model [] = model
 name_or model (name ∷ names) = name
 
+-- the name of the model after a line of this kind, where it was `model` before
 abbrev pub model_at : List ℕ → LineKind → TextLine → List ℕ
 model_at model Model line = name_or model (names_of line)
 model_at model _ line = model

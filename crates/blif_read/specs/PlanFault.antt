@@ -1,4 +1,4 @@
--- What is refused of a plan once its netlist is there.
+-- Why a plan is refused once its netlist is there.
 use Rattle.std.specs.Prelude.{ℕ, zero, suc, ◌*◌, ◌^◌, Bool, true, false, not, ◌&&◌, ◌==◌, if◌then◌else◌, List, [], ◌∷◌, count_by, length, nat_le, nat_lt, Option, None, Some}
 use Rattle.std.specs.List.{list_all, list_any}
 use Rattle.std.specs.Option.{is_some}
@@ -40,23 +40,27 @@ has_lines_for Parity lines = check_lines lines == 0
 has_lines_for Berger lines = group_lines lines == 0 && check_lines lines == 1
 has_lines_for MOutOfN lines = group_lines lines == 0 && check_lines lines == 1
 
+-- under parity the groups share out the outputs; under another code there are as many checks as it has for so many outputs
 abbrev pub has_checks_for : Code → ℕ → List (List ℕ) → ℕ → Bool
 has_checks_for Parity outputs groups checks = are_parts outputs groups
 has_checks_for Berger outputs groups checks = is_width outputs checks
 has_checks_for MOutOfN outputs groups checks = checks == outputs
 
+-- the plan lines fit the code, and so do the groups or the checks that they name
 abbrev pub fits_code : Code → NetlistOf → List TextLine → Bool
 fits_code code net lines =
     has_lines_for code lines && has_checks_for code (source_outputs net) (groups_for code net lines) (length (checks_for code lines))
 
--- the words have one bit a latch and all the same number of ones
+-- the words have one bit per latch and all the same number of ones
 abbrev pub are_alike : ℕ → ℕ → List (List ℕ) → Bool
 are_alike latches weight words = list_all (λ word. length word == latches && ones_of_word word == weight) words
 
+-- there is no text
 abbrev pub is_none : Option (List ℕ) → Bool
 is_none None = true
 is_none (Some text) = false
 
+-- there are no words
 abbrev pub is_empty : List (List ℕ) → Bool
 is_empty [] = true
 is_empty (word ∷ words) = false
@@ -73,13 +77,16 @@ is_right code lines net =
     ((nat_le 3 (length net.circuit.outputs) && nat_le (length net.circuit.outputs) 66) && nat_le (length net.circuit.latches) 64)
     && (fits_code code net lines && fits_latches (length net.circuit.latches) (state_words lines))
 
+-- the refusal of a plan that breaks a rule, at the line that names its code
 abbrev pub shape_refusal : TextLine → List TextLine → NetlistOf → Option BlifError
 shape_refusal head lines net = if is_right (code_in head) lines net then None else Some (PlanShape head.number)
 
+-- the refusal of a name that is no net, at this line, and the later refusal where there is none
 abbrev pub name_refusal : Option ℕ → Option BlifError → Option BlifError
 name_refusal None later = later
 name_refusal (Some line) later = Some (PlanName line)
 
+-- the refusal of a plan: no plan line, and else a name that is no net, and else a broken rule
 abbrev pub head_refusal : Option TextLine → List TextLine → NetlistOf → Option BlifError
 head_refusal None lines net = Some NoPlan
 head_refusal (Some head) lines net = name_refusal (first_unknown net.names lines) (shape_refusal head lines net)

@@ -26,7 +26,7 @@ plan_kind word =
     else (if bytes_eq word (codes "check") then CheckLine
     else (if bytes_eq word (codes "state") then StateLine else OtherLine)))
 
--- a plan line of this kind has its place and its words: the code line comes first and alone so, and has a code; a group has an output
+-- a plan line of this kind has its place and its words: the code line comes first and alone so, and has a code. A group has an output
 -- and a check; checks have a name; a state has one word of bits
 abbrev pub has_plan_shape : PlanKind → Bool → TextLine → Bool
 has_plan_shape CodeLine has_plan line = not has_plan && (length line.words == 2 && is_code (the_word line 1))

@@ -27,9 +27,11 @@ code_line (line ∷ lines) = if line.is_plan then Some line else code_line lines
 abbrev pub version_of : TextLine → ℕ
 version_of line = if bytes_eq (the_word line 0) (codes "1") then 1 else 2
 
+-- the code of a word: `parity`, `berger`, and m-out-of-n where it is neither
 abbrev pub code_named : List ℕ → Code
 code_named word = if bytes_eq word (codes "parity") then Parity else (if bytes_eq word (codes "berger") then Berger else MOutOfN)
 
+-- the code that the line names
 abbrev pub code_in : TextLine → Code
 code_in line = code_named (the_word line 1)
 
@@ -44,6 +46,7 @@ abbrev pub group_outputs_at : PlanKind → TextLine → List (List (List ℕ))
 group_outputs_at GroupLine line = pins_of line ∷ []
 group_outputs_at _ line = []
 
+-- the check net that ends the line of a group
 abbrev pub group_check_at : PlanKind → TextLine → List (List ℕ)
 group_check_at GroupLine line = net_of line ∷ []
 group_check_at _ line = []
@@ -58,6 +61,7 @@ abbrev pub state_at : PlanKind → TextLine → List (List ℕ)
 state_at StateLine line = the_word line 1 ∷ []
 state_at _ line = []
 
+-- the kind is that of a check line
 abbrev pub is_check_line : PlanKind → Bool
 is_check_line CheckLine = true
 is_check_line _ = false
@@ -66,15 +70,19 @@ is_check_line _ = false
 abbrev pub group_outputs : List TextLine → List (List (List ℕ))
 group_outputs lines = flat_map (λ line. group_outputs_at (kind_in_plan line) line) lines
 
+-- the check of each group, in order
 abbrev pub group_checks : List TextLine → List (List ℕ)
 group_checks lines = flat_map (λ line. group_check_at (kind_in_plan line) line) lines
 
+-- the names of the check lines, in order
 abbrev pub check_names : List TextLine → List (List ℕ)
 check_names lines = flat_map (λ line. checks_at (kind_in_plan line) line) lines
 
+-- the words of the states, in order
 abbrev pub state_words : List TextLine → List (List ℕ)
 state_words lines = flat_map (λ line. state_at (kind_in_plan line) line) lines
 
+-- the kind is that of a group line
 abbrev pub is_group_line : PlanKind → Bool
 is_group_line GroupLine = true
 is_group_line _ = false
@@ -83,6 +91,7 @@ is_group_line _ = false
 abbrev pub group_lines : List TextLine → ℕ
 group_lines lines = count_by (λ line. is_group_line (kind_in_plan line)) lines
 
+-- how many check lines there are
 abbrev pub check_lines : List TextLine → ℕ
 check_lines lines = count_by (λ line. is_check_line (kind_in_plan line)) lines
 
@@ -90,6 +99,7 @@ check_lines lines = count_by (λ line. is_check_line (kind_in_plan line)) lines
 abbrev pub bits_of_word : List ℕ → List Bool
 bits_of_word word = map (λ character. character == 49) word
 
+-- how many bits of a state's word are 1
 abbrev pub ones_of_word : List ℕ → ℕ
 ones_of_word word = count_by (λ character. character == 49) word
 
@@ -106,6 +116,7 @@ source_outputs net = length net.circuit.outputs - 2
 abbrev pub net_named : NetlistOf → List ℕ → ℕ
 net_named net name = unwrap_or (find_text net.names name) 0
 
+-- the place of a name's net among the source's outputs, and their number where it is none of them
 abbrev pub output_place : NetlistOf → List ℕ → ℕ
 output_place net name = unwrap_or (position (λ output. output == net_named net name) (take (source_outputs net) net.circuit.outputs)) (source_outputs net)
 

@@ -25,6 +25,7 @@ cause_refusal line cause.LatchInit = LatchInit line
 cause_refusal line cause.PlanShape = PlanShape line
 cause_refusal line (cause.Limit which) = Limit line which
 
+-- the refusal of a line with this fault
 abbrev pub line_refusal : LineFault → BlifError
 line_refusal fault = cause_refusal fault.line fault.cause
 
@@ -41,10 +42,12 @@ abbrev pub first_refusal : Option BlifError → Option BlifError → Option Blif
 first_refusal None later = later
 first_refusal (Some refusal) later = Some refusal
 
+-- the refusal of a line's fault, where there is one
 abbrev pub refusal_of_line : Option LineFault → Option BlifError
 refusal_of_line None = None
 refusal_of_line (Some fault) = Some (line_refusal fault)
 
+-- the refusal of a fault of parts, where there is one
 abbrev pub refusal_of_net : Option NetError → Option BlifError
 refusal_of_net None = None
 refusal_of_net (Some fault) = Some (net_refusal fault)

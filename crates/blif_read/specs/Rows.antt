@@ -28,7 +28,7 @@ output_of row = bytes_eq (output_word row.words) (codes "1")
 abbrev pub is_bit_word : List ℕ → Bool
 is_bit_word word = bytes_eq word (codes "0") || bytes_eq word (codes "1")
 
--- the words are a row of a cover with that many pins: a character a pin and the output, or the output alone without pins
+-- the words are a row of a cover with that many pins: one character per pin and the output, or the output alone without pins
 abbrev pub has_row_shape : ℕ → List (List ℕ) → Bool
 has_row_shape width [] = false
 has_row_shape width (output ∷ []) = width == 0 && is_bit_word output

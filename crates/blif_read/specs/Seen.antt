@@ -13,14 +13,17 @@ abbrev pub more_inputs : LineKind → TextLine → ℕ
 more_inputs Inputs line = name_count line
 more_inputs _ line = 0
 
+-- how many names a line of this kind adds to the outputs
 abbrev pub more_outputs : LineKind → TextLine → ℕ
 more_outputs Outputs line = name_count line
 more_outputs _ line = 0
 
+-- how many nodes a line of this kind adds
 abbrev pub more_nodes : LineKind → ℕ
 more_nodes Names = 1
 more_nodes _ = 0
 
+-- how many latches a line of this kind adds
 abbrev pub more_latches : LineKind → ℕ
 more_latches Latch = 1
 more_latches _ = 0
@@ -30,22 +33,27 @@ abbrev pub inputs_in : List TextLine → ℕ
 inputs_in [] = 0
 inputs_in (line ∷ lines) = inputs_in lines + more_inputs (kind_of line) line
 
+-- how many outputs the lines give
 abbrev pub outputs_in : List TextLine → ℕ
 outputs_in [] = 0
 outputs_in (line ∷ lines) = outputs_in lines + more_outputs (kind_of line) line
 
+-- how many nodes the lines give
 abbrev pub nodes_in : List TextLine → ℕ
 nodes_in [] = 0
 nodes_in (line ∷ lines) = nodes_in lines + more_nodes (kind_of line)
 
+-- how many latches the lines give
 abbrev pub latches_in : List TextLine → ℕ
 latches_in [] = 0
 latches_in (line ∷ lines) = latches_in lines + more_latches (kind_of line)
 
+-- the kind is that of `.model`
 abbrev pub is_model : LineKind → Bool
 is_model Model = true
 is_model _ = false
 
+-- the kind is that of a plan line
 abbrev pub is_plan : LineKind → Bool
 is_plan PlanLine = true
 is_plan _ = false
@@ -55,6 +63,7 @@ abbrev pub has_model : List TextLine → Bool
 has_model [] = false
 has_model (line ∷ lines) = is_model (kind_of line) || has_model lines
 
+-- some line is a plan line
 abbrev pub has_plan : List TextLine → Bool
 has_plan [] = false
 has_plan (line ∷ lines) = is_plan (kind_of line) || has_plan lines
@@ -64,6 +73,7 @@ abbrev pub first_output : Option Bool → Bool → Option Bool
 first_output None output = Some output
 first_output (Some first) output = Some first
 
+-- the cover that is open, if one is, after a row with this output
 abbrev pub with_row : Option OpenCover → Bool → Option OpenCover
 with_row None output = None
 with_row (Some cover) output = Some (record { width = cover.width; first = first_output cover.first output })
@@ -76,7 +86,7 @@ cover_after Row line cover = with_row cover (output_of line)
 cover_after PlanLine line cover = cover
 cover_after _ line cover = None
 
--- the cover that is open behind the lines, the nearest line first
+-- the cover that is open after the lines, the nearest line first
 abbrev pub open_cover : List TextLine → Option OpenCover
 open_cover [] = None
 open_cover (line ∷ back) = cover_after (kind_of line) line (open_cover back)
@@ -93,7 +103,7 @@ seen_of back = record {
   latches = latches_in back;
 }
 
--- what is seen behind one more line of this kind
+-- what is seen after one more line of this kind
 abbrev pub seen_behind : Seen → LineKind → TextLine → Seen
 seen_behind seen kind line = record {
   has_model = is_model kind || seen.has_model;

@@ -168,7 +168,7 @@ impl Builder {
         Ok(())
     }
 
-    /// Adds what a line gives, behind which the lines from `behind` on stand.
+    /// Adds what a line gives, after which the lines from `behind` on stand.
     pub fn line(
         &mut self,
         line: &TextLine,

@@ -1,4 +1,4 @@
-//! What is refused of a line, behind what was seen.
+//! Why a line is refused, after what was seen.
 ghost use Rattle.std.specs.Prelude.{◌≡◌, [], ◌∷◌, length, nat_lt, ◌&&◌, ◌==◌};
 ghost use Rattle.tsc_cover.specs.Text.{is_row_text};
 ghost use Rattle.blif_read.specs.LineKind.{names_of};
@@ -201,7 +201,7 @@ fn latch_limit(seen: &Seen, line: &TextLine) -> Option<Which>
     name_limit(latches, word_or_empty(line, 2))
 }
 
-/// Whether the word has a character a pin, of which there is one.
+/// Whether there is a pin, and the word has one character per pin.
 fn has_pins(width: usize, input: &[u8]) -> bool
     ensures pins { result ≡ ((nat_lt 0 width && length input.now == width) && is_row_text input.now) }
 {

@@ -10,11 +10,15 @@ use crate::first_fault::first_fault;
 use crate::kinds::Kind;
 use crate::parts_of::parts_of;
 use std::alloc::Global;
-use tsc_net::Netlist;
+use tsc_net::IndexedNetlist;
 use tsc_text::SectionLines;
 
-/// The netlist that the lines of a section denote.
-pub fn read_net(alloc: Global, section: &SectionLines, kind: Kind) -> Result<Netlist, BlifError>
+/// The netlist that the lines of a section denote, beside the table of its names.
+pub fn read_net(
+    alloc: Global,
+    section: &SectionLines,
+    kind: Kind,
+) -> Result<IndexedNetlist, BlifError>
     requires few { word_count section.now < 2 ^ 32 }
     ensures net { IfOk result (λ net. named_of net ≡ named_text section.now) }
     ensures exact { IfOk result (λ net. net ≡ netlist_of (named_text section.now)) }
@@ -26,7 +30,7 @@ pub fn read_net(alloc: Global, section: &SectionLines, kind: Kind) -> Result<Net
         None => {}
     }
     let parts = parts_of(alloc, section).map_err(BlifError::Memory)?;
-    match Netlist::build(alloc, parts) {
+    match parts.build_indexed(alloc) {
         Ok(net) => Ok(net),
         Err(error) => Err(net_refusal(error)),
     }

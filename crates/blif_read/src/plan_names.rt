@@ -11,7 +11,7 @@ ghost use Rattle.blif_read.specs.PlanText.{code_line, kind_in_plan, names_at, ne
 use crate::plan_lines::{PlanKind, plan_kind_of};
 use std::alloc::{AllocError, Global};
 use tsc_io::Items;
-use tsc_net::{NetId, Netlist, Nets, PlaceList};
+use tsc_net::{IndexedNetlist, NetId, Nets, PlaceList};
 use tsc_text::{SectionLines, TextLine};
 
 /// The kind of a line in a plan.
@@ -40,7 +40,7 @@ pub fn code_line<'a>(section: &SectionLines<'a>) -> Option<TextLine<'a>>
 }
 
 /// Whether no net has the name.
-fn is_unknown(net: &Netlist, name: &[u8]) -> bool
+fn is_unknown(net: &IndexedNetlist, name: &[u8]) -> bool
     ensures unknown { result ≡ not (is_some (find_text net.now.names name.now)) }
 {
     net.net(name).is_none()
@@ -48,7 +48,7 @@ fn is_unknown(net: &Netlist, name: &[u8]) -> bool
 
 /// Whether a plan line names what is no net.
 #[tactic(auto, using(crate::proofs::PlanWalk::unknown_here, crate::proofs::PlanWalk::unknown_later, crate::proofs::PlanWalk::unknown_end))]
-fn has_unknown_from(line: &TextLine, net: &Netlist) -> bool
+fn has_unknown_from(line: &TextLine, net: &IndexedNetlist) -> bool
     ensures unknown { result ≡ list_any (λ name. not (is_some (find_text net.now.names name))) (names_of line.now) }
 {
     for place in 1..line.words() {
@@ -60,7 +60,7 @@ fn has_unknown_from(line: &TextLine, net: &Netlist) -> bool
 }
 
 /// Whether a line names what is no net.
-fn has_unknown(line: &TextLine, net: &Netlist) -> bool
+fn has_unknown(line: &TextLine, net: &IndexedNetlist) -> bool
     ensures unknown { result ≡ list_any (λ name. not (is_some (find_text net.now.names name))) (names_at (kind_in_plan line.now) line.now) }
 {
     match kind_in_plan(line) {
@@ -71,7 +71,7 @@ fn has_unknown(line: &TextLine, net: &Netlist) -> bool
 
 /// The number of the first line that names what is no net.
 #[tactic(auto, using(crate::proofs::PlanWalk::first_end))]
-pub fn first_unknown(section: &SectionLines, net: &Netlist) -> Option<usize>
+pub fn first_unknown(section: &SectionLines, net: &IndexedNetlist) -> Option<usize>
     ensures line { result ≡ first_unknown net.now.names section.now }
 {
     for place in 0..section.len() {
@@ -84,7 +84,7 @@ pub fn first_unknown(section: &SectionLines, net: &Netlist) -> Option<usize>
 }
 
 /// The net of a name.
-pub fn net_named(net: &Netlist, name: &[u8]) -> NetId
+pub fn net_named(net: &IndexedNetlist, name: &[u8]) -> NetId
     ensures number { result.number ≡ net_named net.now name.now }
 {
     match net.net(name) {
@@ -101,11 +101,11 @@ fn position_of(nets: &[NetId], number: u32) -> Option<usize>
 }
 
 /// The place of a name's net among the source's outputs.
-pub fn output_place(net: &Netlist, name: &[u8]) -> usize
+pub fn output_place(net: &IndexedNetlist, name: &[u8]) -> usize
     ensures place { result ≡ output_place net.now name.now }
 {
     let number = net_named(net, name).number;
-    let outputs = net.outputs();
+    let outputs = net.netlist().outputs();
     let count = outputs.len().saturating_sub(2);
     match position_of(&outputs[..count], number) {
         Some(place) => place,
@@ -119,7 +119,7 @@ pub fn nets_named(
     line: &TextLine,
     from: usize,
     to: usize,
-    net: &Netlist,
+    net: &IndexedNetlist,
 ) -> Result<Nets, AllocError>
     requires order { from ≤ to }
     requires within { to ≤ length line.now.words }
@@ -133,7 +133,11 @@ pub fn nets_named(
 }
 
 /// The places of the outputs that a group names.
-pub fn places_named(alloc: Global, line: &TextLine, net: &Netlist) -> Result<PlaceList, AllocError>
+pub fn places_named(
+    alloc: Global,
+    line: &TextLine,
+    net: &IndexedNetlist,
+) -> Result<PlaceList, AllocError>
     requires words { 2 ≤ length line.now.words }
     ensures places { IfOk result (λ places. places ≡ map (output_place net.now) (pins_of line.now)) }
 {

@@ -9,11 +9,11 @@ use crate::plan_lines::PlanKind;
 use crate::plan_names::{kind_in_plan, net_named, nets_named, places_named};
 use std::alloc::{AllocError, Global};
 use tsc_io::Items;
-use tsc_net::{Group, GroupList, Netlist, Nets};
+use tsc_net::{Group, GroupList, IndexedNetlist, Nets};
 use tsc_text::{SectionLines, TextLine};
 
 /// The group of a line.
-fn group_at(alloc: Global, line: &TextLine, net: &Netlist) -> Result<Group, AllocError>
+fn group_at(alloc: Global, line: &TextLine, net: &IndexedNetlist) -> Result<Group, AllocError>
     requires words { 2 ≤ length line.now.words }
     ensures places { IfOk result (λ group. group.places ≡ map (output_place net.now) (pins_of line.now)) }
     ensures check { IfOk result (λ group. group.check.number ≡ net_named net.now (net_of line.now)) }
@@ -28,7 +28,7 @@ fn add_group(
     alloc: Global,
     groups: &mut GroupList,
     line: &TextLine,
-    net: &Netlist,
+    net: &IndexedNetlist,
 ) -> Result<(), AllocError>
     requires planned { IsPlannedAt (kind_in_plan line.now) line.now }
     ensures places { OnOk result (map (λ group. group.places) groups.new ≡ map (λ group. group.places) groups.old ++ map (λ names. map (output_place net.now) names) (group_outputs_at (kind_in_plan line.now) line.now)) }
@@ -45,7 +45,11 @@ fn add_group(
 }
 
 /// The groups of a section.
-pub fn groups(alloc: Global, section: &SectionLines, net: &Netlist) -> Result<GroupList, AllocError>
+pub fn groups(
+    alloc: Global,
+    section: &SectionLines,
+    net: &IndexedNetlist,
+) -> Result<GroupList, AllocError>
     requires planned { ArePlanned section.now }
     ensures places { IfOk result (λ groups. map (λ group. group.places) groups ≡ map (λ names. map (output_place net.now) names) (group_outputs section.now)) }
     ensures checks { IfOk result (λ groups. map (λ group. group.check.number) groups ≡ map (net_named net.now) (group_checks section.now)) }
@@ -63,7 +67,7 @@ fn add_checks(
     alloc: Global,
     nets: &mut Nets,
     line: &TextLine,
-    net: &Netlist,
+    net: &IndexedNetlist,
 ) -> Result<(), AllocError>
     ensures nets { OnOk result (net_numbers nets.new ≡ net_numbers nets.old ++ map (net_named net.now) (checks_at (kind_in_plan line.now) line.now)) }
 {
@@ -82,7 +86,11 @@ fn add_checks(
 }
 
 /// The nets that the check lines of a section name.
-pub fn check_nets(alloc: Global, section: &SectionLines, net: &Netlist) -> Result<Nets, AllocError>
+pub fn check_nets(
+    alloc: Global,
+    section: &SectionLines,
+    net: &IndexedNetlist,
+) -> Result<Nets, AllocError>
     ensures nets { IfOk result (λ nets. net_numbers nets ≡ map (net_named net.now) (check_names section.now)) }
 {
     let mut nets = Items::new(alloc);

@@ -18,7 +18,7 @@ use crate::plan_rules::{code_named, fits_latches, has_checks_for, has_lines_for,
 use crate::plan_states::states;
 use std::alloc::{AllocError, Global};
 use tsc_io::Items;
-use tsc_net::{Code, Group, GroupList, NetId, Netlist, Nets, Plan};
+use tsc_net::{Code, Group, GroupList, IndexedNetlist, NetId, Netlist, Nets, Plan};
 use tsc_text::{SectionLines, TextLine};
 
 /// The groups and the checks of a plan.
@@ -45,7 +45,7 @@ fn collected(
     alloc: Global,
     code: Code,
     section: &SectionLines,
-    net: &Netlist,
+    net: &IndexedNetlist,
 ) -> Result<Draft, AllocError>
     requires planned { ArePlanned section.now }
     ensures groups { IfOk result (λ d. map (λ group. group.places) d.groups ≡ groups_for code net.now section.now) }
@@ -158,7 +158,11 @@ fn put_together(
 }
 
 /// The plan that the lines of a section state for their netlist.
-pub fn read_plan(alloc: Global, section: &SectionLines, net: &Netlist) -> Result<Plan, BlifError>
+pub fn read_plan(
+    alloc: Global,
+    section: &SectionLines,
+    net: &IndexedNetlist,
+) -> Result<Plan, BlifError>
     requires sound { netlist_refusal kinds.Netlist section.now ≡ None }
     ensures plan { IfOk result (λ plan. plan_at (code_line section.now) section.now net.now ≡ Some plan) }
     ensures of_net { IfOk result (IsPlanOf net.now.circuit) }
@@ -175,12 +179,15 @@ pub fn read_plan(alloc: Global, section: &SectionLines, net: &Netlist) -> Result
     }
     let code = code_named(word_or_empty(&head, 1));
     let draft = collected(alloc, code, section, net).map_err(BlifError::Memory)?;
-    let right = is_right(alloc, code, &draft, section, net).map_err(BlifError::Memory)?;
+    let netlist = net.netlist();
+    let right = is_right(alloc, code, &draft, section, netlist).map_err(BlifError::Memory)?;
     if !right {
         return Err(BlifError::PlanShape {
             line: head.number(),
         });
     }
-    let plan = put_together(alloc, &head, code, draft, section, net).map_err(BlifError::Memory)?;
+    let plan = put_together(alloc, &head, code, draft, section, netlist).map_err(
+        BlifError::Memory,
+    )?;
     Ok(plan)
 }

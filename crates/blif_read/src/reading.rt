@@ -29,7 +29,7 @@ pub struct BlifText {
 /// # Errors
 ///
 /// In this order: the first line with a fault, and there the first fault in the order of `BlifError`; what
-/// `Netlist::build` refuses; no plan; a name in the plan that is no net; a plan that breaks a rule. Want of memory
+/// `Parts::build` refuses; no plan; a name in the plan that is no net; a plan that breaks a rule. Want of memory
 /// may come at any place.
 pub fn read_blif(
     alloc: Global,
@@ -50,11 +50,14 @@ pub fn read_blif(
     let section = SectionLines::of(lines, section);
     let net = read_net(alloc, &section, kind)?;
     match kind {
-        Kind::Source | Kind::Unplanned => Ok(BlifText { net, plan: None }),
+        Kind::Source | Kind::Unplanned => Ok(BlifText {
+            net: net.into_netlist(),
+            plan: None,
+        }),
         Kind::Netlist => {
             let plan = read_plan(alloc, &section, &net)?;
             Ok(BlifText {
-                net,
+                net: net.into_netlist(),
                 plan: Some(plan),
             })
         }

@@ -52,7 +52,7 @@ impl Seen {
         }
     }
 
-    /// Behind one more line of that kind.
+    /// After one more line of that kind.
     pub fn behind(self, kind: Kind, line_kind: LineKind, line: &TextLine) -> Seen
         requires within { IsWithin self }
         requires sound { fault_of kind self line_kind line.now ≡ None }
@@ -93,7 +93,7 @@ impl Seen {
     }
 }
 
-/// The open cover behind a row with this output.
+/// The open cover after a row with this output.
 fn with_row(cover: Option<OpenCover>, output: bool) -> Option<OpenCover>
     ensures cover { result ≡ with_row cover output }
 {

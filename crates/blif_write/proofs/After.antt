@@ -7,6 +7,7 @@ use Rattle.tsc_text.proofs.Parts.{ends_in-append}
 use Rattle.blif_write.specs.Steps.{after_word, after_words, line_end, after_end, after_marked, after_line, after_lines}
 use Rattle.blif_write.proofs.Filled.{Filled, AllFilled}
 
+-- writing some words and then others is writing all of them as one list
 pub after_words-append : (text : List ℕ) (xs ys : List (List ℕ)) → after_words text (xs ++ ys) ≡ after_words (after_words text xs) ys
 after_words-append text [] ys = refl
 after_words-append text (x ∷ xs) ys = after_words-append (after_word text x) xs ys
@@ -52,6 +53,7 @@ after_line-text text false ((b ∷ w) ∷ ws) h =
     ∙ after_end-text text b (w ++ behind_blanks ws)
     ∙ ap (λ body. text ++ (kept_apart body ++ 10 ∷ [])) (sym (join-behind (b ∷ w) ws))
 
+-- filled lines, written step by step after a text, give the text and then the lines' own text
 pub after_lines-text : (text : List ℕ) (lines : List WrittenLine) → AllFilled lines → after_lines text lines ≡ text ++ text_of lines
 after_lines-text text [] h = sym (append-nil text)
 after_lines-text text (line ∷ lines) h = after_lines-text (after_line text line) lines h.1

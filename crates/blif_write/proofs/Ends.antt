@@ -9,6 +9,7 @@ ends_in-at b (c ∷ []) (suc n) x e h = absurd (omega arith)
 ends_in-at b (c ∷ d ∷ cs) zero x e h = absurd (omega arith)
 ends_in-at b (c ∷ d ∷ cs) (suc n) x e h = ends_in-at b (d ∷ cs) n x (omega arith) h
 
+-- whether the last byte is b is whether the bytes end in b
 pub ends_in-last : (b : ℕ) (xs : List ℕ) (x : ℕ) → Some x ≡ slice_get xs (length xs - 1) → eqb x b ≡ ends_in b xs
 ends_in-last b [] x h = cc
 ends_in-last b (c ∷ cs) x h = ends_in-at b (c ∷ cs) (length (c ∷ cs) - 1) x (omega arith) h

@@ -23,6 +23,7 @@ all-also p q each (b ∷ bytes) h =
     let parts : Both (p b) (list_all p bytes) = both _ _ h in
     ap₂ (λ x y. x && y) (each b parts.left) (all-also p q each bytes parts.right)
 
+-- a name of 1 to 255 bytes, each of which a name may have, is good
 pub name_good : (name : List ℕ) → 1 ≤ length name → length name ≤ 255 → list_all is_name_byte name ≡ true → IsGoodName name
 name_good name some short h =
     record {

@@ -19,6 +19,7 @@ use Rattle.blif_write.proofs.PlanAccepted.{plan-accepted}
 use Rattle.blif_write.proofs.PlanStated.{plan-stated}
 use Rattle.blif_write.proofs.Told.{plan-told, tells}
 
+-- the text of a built, writable netlist with a well-made plan of it is read as that netlist with that plan
 pub is-read-as : (net : NetlistOf) (P : CodePlan) → IsBuilt net → IsWellMade P → IsPlanOf net.circuit P → IsWritable net → IsReadAs (netlist_text net P) net P
 is-read-as net P checked made of writable =
     let N = named_of net in

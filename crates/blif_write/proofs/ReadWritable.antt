@@ -71,6 +71,7 @@ lines-writable kind lines names e =
       each_node = All-map IsWritableNode (node_of place) (nodes_of lines) (nodes-writable place lines (are_clean kind lines (seen_of []) (sym (first_fault_is kind [] lines) ∙ clean)));
     }
 
+-- in a text of allowed bytes, what a section denotes that isn't refused is writable
 pub read-writable : (text : List ℕ) (lines : List TextLine) (section : Section) (kind : Kind) (net : NetlistOf) → bad_line text ≡ None → lines ≡ lines_of text
     → refusal kind (section_lines lines section) ≡ None → net ≡ netlist_of (named_text (section_lines lines section)) → IsWritable net
 read-writable text lines section kind net allowed is sound denoted =

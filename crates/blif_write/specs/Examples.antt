@@ -8,7 +8,7 @@ use Rattle.tsc_text.specs.Written.{text_of}
 use Rattle.blif_write.specs.Layout.{layout}
 use Rattle.blif_write.specs.NamedPlan.{NamedPlan}
 
--- each line with an LF behind it
+-- each line with an LF after it
 abbrev pub with_feeds : List (List ℕ) → List ℕ
 with_feeds [] = []
 with_feeds (line ∷ lines) = line ++ 10 ∷ with_feeds lines

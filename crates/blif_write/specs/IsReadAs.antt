@@ -27,8 +27,8 @@ lines_before_end net P = numbered 1 (written_before_end (named_of net) (named_pl
 abbrev pub first_section : NetlistOf → CodePlan → Section
 first_section net P = section_of (all_lines net P) 0 Blif
 
--- the text is read as the netlist with its plan: no byte of it is refused, its lines are those of the layout, its first section has those
--- before `.end` and is its last, the reader refuses nothing of the section, not a line, not the netlist, not the plan, and what the section
+-- the text is read as the netlist with its plan: no byte of it is refused, its lines are those of the layout, and its first section has those
+-- before `.end` and is its last. The reader refuses nothing of the section, not a line, not the netlist, not the plan, and what the section
 -- denotes is the netlist with the plan: this netlist, number by number
 pub record IsReadAs (text : List ℕ) (net : NetlistOf) (P : CodePlan) : Type 0 where
   pub allowed : bad_line text ≡ None

@@ -62,7 +62,7 @@ check_line names = plan_line_of (codes "check" ∷ names)
 abbrev pub state_line : List Bool → WrittenLine
 state_line bits = plan_line_of (codes "state" ∷ word_of_bits bits ∷ [])
 
--- the lines that name the checks: for parity a line a group, else one line
+-- the lines that name the checks: for parity one line per group, else one line
 abbrev pub check_lines : Code → NamedPlan → List WrittenLine
 check_lines Parity P = map group_line P.groups
 check_lines Berger P = check_line P.checks ∷ []
@@ -101,7 +101,7 @@ end_line = line_of_words (codes ".end" ∷ [])
 abbrev pub head_lines : Named → List WrittenLine
 head_lines N = model_line N.model ∷ inputs_line N.inputs ∷ outputs_line N.outputs ∷ []
 
--- the lines before `.end`, with plan lines behind the head, or with none
+-- the lines before `.end`, with plan lines after the head, or with none
 abbrev pub section_with : Named → List WrittenLine → List WrittenLine
 section_with N plan = ((head_lines N ++ plan) ++ map latch_line N.latches) ++ flat_map node_lines N.nodes
 

@@ -7,7 +7,7 @@ use Rattle.tsc_text.specs.Written.{WrittenLine}
 abbrev pub after_word : List ℕ → List ℕ → List ℕ
 after_word text word = (text ++ 32 ∷ []) ++ word
 
--- after words, each behind a blank
+-- after words, with a blank before each
 abbrev pub after_words : List ℕ → List (List ℕ) → List ℕ
 after_words text [] = text
 after_words text (w ∷ ws) = after_words (after_word text w) ws
@@ -25,7 +25,7 @@ abbrev pub after_front : List ℕ → List (List ℕ) → List ℕ
 after_front text [] = text
 after_front text (w ∷ ws) = after_words (text ++ w) ws
 
--- after the words of a line, behind `#tsc` in a plan line
+-- after the words of a line, which follow `#tsc` in a plan line
 abbrev pub after_marked : List ℕ → Bool → List (List ℕ) → List ℕ
 after_marked text true words = after_words (text ++ codes "#tsc") words
 after_marked text false words = after_front text words

@@ -41,6 +41,7 @@ pub record IsPlanLine (line : WrittenLine) : Type 0 where
 abbrev pub told_lines : NetlistOf → List WrittenLine → List TextLine
 told_lines net plan = numbered 1 (layout_with (named_of net) plan)
 
+-- the lines before `.end` of a netlist with plan lines, numbered from 1
 abbrev pub told_before_end : NetlistOf → List WrittenLine → List TextLine
 told_before_end net plan = numbered 1 (section_with (named_of net) plan)
 
@@ -48,8 +49,8 @@ told_before_end net plan = numbered 1 (section_with (named_of net) plan)
 abbrev pub told_section : NetlistOf → List WrittenLine → Section
 told_section net plan = section_of (told_lines net plan) 0 Blif
 
--- the text tells the netlist, with these plan lines: no byte of it is refused, its lines are those of the layout, its first section has
--- those before `.end` and is its last, and what the section denotes is the netlist: this netlist, number by number
+-- the text tells the netlist, with these plan lines: no byte of it is refused, its lines are those of the layout, and its first section has
+-- those before `.end` and is its last. What the section denotes is the netlist: this netlist, number by number
 pub record Tells (text : List ℕ) (net : NetlistOf) (plan : List WrittenLine) : Type 0 where
   pub allowed : bad_line text ≡ None
   pub lines : lines_of text ≡ told_lines net plan
@@ -58,7 +59,7 @@ pub record Tells (text : List ℕ) (net : NetlistOf) (plan : List WrittenLine) :
   pub denoted : DenotesSource (told_before_end net plan) net
   pub same : netlist_of (named_text (told_before_end net plan)) ≡ net
 
--- a node with a literal a pin in each row
+-- a node with one literal per pin in each row
 abbrev pub HasWholeRows : NodeOf → Type 0
 HasWholeRows n = All (λ row. length row ≡ n.cover.width) n.cover.rows
 

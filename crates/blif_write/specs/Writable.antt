@@ -13,7 +13,7 @@ pub record IsGoodName (name : List ℕ) : Type 0 where
   pub allowed : IsTrue (list_all is_allowed name)
   pub short : length name ≤ 255
 
--- a node that a text can hold: at most 64 pins, a literal a pin in each row, and an on-set where there is no row
+-- a node that a text can hold: at most 64 pins, one literal per pin in each row, and an on-set where there is no row
 pub record IsWritableNode (n : NodeOf) : Type 0 where
   pub pins : length n.reads ≤ 64
   pub rows : All (λ row. length row ≡ n.cover.width) n.cover.rows

@@ -40,7 +40,7 @@ pub fn written_netlists_are_read()
         → IsReadAs (netlist_text net plan) net plan }
 {}
 
-/// What is written is read again as itself, without limits: the text of a netlist whose names are words, of any length, with any
+/// What is written is read again as itself, without limits. The text of a netlist whose names are words, of any length, with any
 /// plan lines or with none, has only bytes that a text may hold, is one section, and denotes that netlist. What the reader refuses
 /// for its limits is another matter.
 pub fn written_netlists_are_told()
@@ -51,7 +51,7 @@ pub fn written_netlists_are_told()
         → Tells (text_with net plan) net plan }
 {}
 
-/// What the reader refuses of such a text is a limit alone: where each row has a literal a pin and no net stands twice among the
+/// What the reader refuses of such a text is a limit alone. Where each row has one literal per pin and no net stands twice among the
 /// outputs, the lines are refused as a netlist without a plan for a limit that they pass, or not at all.
 pub fn limits_alone_are_refused()
     ensures refused { (net : NetlistOf) (plan : List WrittenLine)

@@ -50,7 +50,7 @@ fn push_code_line(out: &mut Bytes, version: u8, code: Code) -> Result<(), AllocE
     end_line(out)
 }
 
-/// Adds the lines that name the checks: for parity a line a group, else one line.
+/// Adds the lines that name the checks: for parity one line per group, else one line.
 fn push_check_lines(out: &mut Bytes, net: &Netlist, plan: &Plan) -> Result<(), AllocError>
     requires checked { IsBuilt net.now }
     requires of_net { IsPlanOf net.now.circuit plan.now }

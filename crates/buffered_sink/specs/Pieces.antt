@@ -9,7 +9,7 @@ abbrev pub piece_text : Piece → List ℕ
 piece_text (Text bytes) = bytes.now
 piece_text (Number value) = decimal value
 
--- the text of pieces, one behind the other
+-- the text of pieces, one after the other
 abbrev pub pieces_text : List Piece → List ℕ
 pieces_text [] = []
 pieces_text (piece ∷ []) = piece_text piece

@@ -45,7 +45,7 @@ fn print_number<K: Sink>(sink: &mut K, page: &mut Page, value: u64) -> Result<()
     print(sink, page, digits.format(value).as_bytes())
 }
 
-/// Prints the pieces of a line, one behind the other.
+/// Prints the pieces of a line, one after the other.
 ///
 /// # Errors
 ///

@@ -161,7 +161,7 @@ fn is_written_once(net: &Netlist) -> bool {
 #[test]
 fn a_line_of_two_roots_is_written_once(rt: HostRuntime) -> Result<(), Fail> {
     let parts = written_twice(rt.alloc())?;
-    let net = Netlist::build(rt.alloc(), parts)?;
+    let net = parts.build(rt.alloc())?;
     assert!(rt; is_written_once(&net));
     Ok(())
 }

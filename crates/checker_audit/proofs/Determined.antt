@@ -25,6 +25,7 @@ module _ (N : Circuit) (P : CodePlan) where
   same_net : (a b : NetId) → a.number ≡ b.number → a ≡ b
   same_net a b e = let made : ℕ → NetId = λ n. record { number = n } in ap made e
 
+  -- of a netlist with its plan there is at most one answer: two are the same
   pub one_answer : (a b : Option CheckerReason) → IsCheckerAnswer N P a → IsCheckerAnswer N P b → a ≡ b
   one_answer None None first second = refl
   one_answer None (Some (Word value width)) first second = absurd (disjoint_judges (bits_of (monitored_count N P) value) (first.0 second.0) second.2.1)

@@ -38,7 +38,7 @@ pub fn first_misjudged(
     Ok(first_wrong(net, plan, word, distinct, places, &mut words, &mut lanes))
 }
 
-/// The first value that is misjudged. `words` has a word a net, `lanes` a word a monitored net.
+/// The first value that is misjudged. `words` has one word per net, `lanes` one per monitored net.
 fn first_wrong(
     net: &Netlist,
     plan: &Plan,

@@ -6,14 +6,17 @@ use Rattle.std.proofs.lemmas.List.{append-nil, drop_all, take_all}
 use Rattle.std.proofs.Math.Logic.{⊎_elim}
 
 module _ {X : Type 0} (Q : X → Type 0) where
+  -- what holds of each item of two lists holds of each item of both, joined
   pub each-append : (xs ys : List X) → AllByRecursion Q xs → AllByRecursion Q ys → AllByRecursion Q (xs ++ ys)
   each-append [] ys a b = b
   each-append (x ∷ xs) ys a b = (a.0, each-append xs ys a.1 b)
 
+  -- what holds of each item of joined lists holds of each item of the first
   pub each-front : (xs ys : List X) → AllByRecursion Q (xs ++ ys) → AllByRecursion Q xs
   each-front [] ys a = tt
   each-front (x ∷ xs) ys a = (a.0, each-front xs ys a.1)
 
+  -- what holds of each item of joined lists holds of each item of the second
   pub each-back : (xs ys : List X) → AllByRecursion Q (xs ++ ys) → AllByRecursion Q ys
   each-back [] ys a = a
   each-back (x ∷ xs) ys a = each-back xs ys a.1
@@ -23,6 +26,7 @@ module _ {X : Type 0} (Q : X → Type 0) where
   each-range f a zero h = tt
   each-range f a (suc n) h = (h a (omega arith) (omega arith), each-range f (a + 1) n (λ i low high. h i (omega arith) (omega arith)))
 
+  -- what holds of all that comes of numbers in a row holds of what comes of one of them
   pub range-at : (f : ℕ → X) (a n i : ℕ) → AllByRecursion Q (map f (range_with_len a n)) → a ≤ i → i < a + n → Q (f i)
   range-at f a zero i all low high = absurd (omega arith)
   range-at f a (suc n) i all low high = ⊎_elim
@@ -46,6 +50,7 @@ module _ {X : Type 0} (Q : X → Type 0) where
   each-map f [] d h = tt
   each-map f (x ∷ xs) d h = (h 0 (omega arith), each-map f xs d (λ j inside. h (suc j) (omega arith)))
 
+  -- what holds of all that comes of a list's items holds of what comes of the item at a place
   pub map-at : {A : Type 0} (f : A → X) (xs : List A) (d : A) (j : ℕ) → AllByRecursion Q (map f xs) → j < length xs → Q (f (slice_index_or xs j d))
   map-at f [] d j all inside = absurd (omega arith)
   map-at f (x ∷ xs) d zero all inside = all.0

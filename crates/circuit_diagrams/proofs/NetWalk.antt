@@ -17,13 +17,14 @@ use Rattle.cover_diagrams.specs.Covering.{Grows, values, cover_function, StandFo
 use Rattle.cover_diagrams.proofs.Steps.{Grows-stands, own_stands}
 use Rattle.circuit_diagrams.specs.Stated.{AreValuations, net_function, node_functions}
 use Rattle.circuit_diagrams.specs.Steps.{AreKept, AreBuilt}
-use Rattle.circuit_diagrams.specs.NetRows.{InputsStand, ReadsStand, NetsStand, ReadsMarked}
+use Rattle.circuit_diagrams.specs.NetRows.{ReadsStand, NetsStand, ReadsMarked}
 use Rattle.circuit_diagrams.proofs.CoverLists.{cover_kept, cover_has_rows}
 
 -- the function of an input's net
 input_is_net : (N : Circuit) (v : List Bool → List Bool) (i : ℕ) → AreValuations N v → i < N.inputs → Same N.inputs (input_bit i) (net_function v i)
 input_is_net N v i vals inside = record { at = λ x sized. sym ((vals.settles x sized).inputs i inside) }
 
+-- what the functions of nets make of an input are the bits of these nets
 pub values_of_nets : (v : List Bool → List Bool) (x : List Bool) (reads : List ℕ) → values (map (net_function v) reads) x ≡ map (bit (v x)) reads
 values_of_nets v x [] = refl
 values_of_nets v x (net ∷ reads) = ap (λ bits. bit (v x) net ∷ bits) (values_of_nets v x reads)
@@ -83,14 +84,6 @@ pub node_stands : (state : DiagramState) (N : Circuit) (v : List Bool → List B
     StandsFor state (cover_function c (map (net_function v) (node N j).reads)) row → StandsFor state (net_function v (node_net N j)) row
 node_stands state N v j row c is inputs vals there stands =
     stands_same state _ _ N.inputs row inputs (node_is_net N v j vals there) (subst (λ (t : CoverTable). StandsFor state (cover_function t (map (net_function v) (node N j).reads)) row) is stands)
-
--- before the walk
-pub walk_begun : (state : DiagramState) (N : Circuit) (v : List Bool → List Bool) (marks : List Bool) (order rows : List ℕ) → state.inputs ≡ N.inputs → AreValuations N v → InputsStand state N rows →
-    NetsStand state N v marks order 0 rows
-walk_begun state N v marks order rows inputs vals stand = record {
-  inputs = λ i inside. stands_same state (input_bit i) (net_function v i) N.inputs _ inputs (input_is_net N v i vals inside) (stand i inside);
-  nodes = λ k below. absurd (omega arith);
-}
 
 -- what a marked node reads has its rows
 pub reads_stand : (state : DiagramState) (N : Circuit) (v : List Bool → List Bool) (marks : List Bool) (order rows : List ℕ) (k : ℕ) → ReadsMarked N marks order → k < length order → IsTrue (bit marks (slice_index order k)) →

@@ -10,17 +10,16 @@ use Rattle.diagrams.specs.Building.{DiagramState, StandsFor}
 use Rattle.cover_diagrams.specs.Covering.{Grows}
 use Rattle.cover_diagrams.proofs.Steps.{Grows-stands}
 
+-- rows that were there are there after the diagrams grew
 pub inside_on : (old new : DiagramState) (rows : List ℕ) → Grows old new → All (λ row. row < length old.rows) rows → All (λ row. row < length new.rows) rows
 inside_on old new rows grown inside = All-weaker (λ row. row < length old.rows) (λ row. row < length new.rows) (λ row below. let longer = grown.extends.longer in omega (arith, longer, below)) rows inside
 
+-- rows that were there, and one in the place of another, are all there after the diagrams grew
 pub inside_set : (old new : DiagramState) (rows : List ℕ) (k row : ℕ) → Grows old new → All (λ r. r < length old.rows) rows → row < length new.rows → All (λ r. r < length new.rows) (slice_set rows k row)
 inside_set old new rows k row grown inside here = All-set (λ r. r < length new.rows) rows k row here (inside_on old new rows grown inside)
 
 elsewhere : (rows : List ℕ) (k m row : ℕ) → m < k → slice_index (slice_set rows k row) m ≡ slice_index rows m
 elsewhere rows k m row before = grind (arith, common_steps)
-
-pub other_place : (rows : List ℕ) (k m row : ℕ) → (m ≡ k → ⊥) → slice_index (slice_set rows k row) m ≡ slice_index rows m
-other_place rows k m row apart = grind (arith, common_steps)
 
 pub set_there : (rows : List ℕ) (k row : ℕ) → k < length rows → slice_index (slice_set rows k row) k ≡ row
 set_there rows k row inside = grind (arith, common_steps)

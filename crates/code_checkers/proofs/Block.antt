@@ -141,6 +141,7 @@ word-length N P v plan =
 
 -- the rails have the values of the stated rails over the word
 module _ (N : Circuit) (P : CodePlan) (has : RailsRealise N P) (v : List Bool) (settled : CheckerSettles N P v) where
+  -- the first rail has the value of the stated first rail over the word
   pub rail1_value : bit v P.rail1 ≡ value (word N P v) (rail1 P)
   unfolding DependsRail
   rail1_value = realised_value N P v settled (rail1 P) P.rail1 has.first reach
@@ -148,6 +149,7 @@ module _ (N : Circuit) (P : CodePlan) (has : RailsRealise N P) (v : List Bool) (
       reach : (q : ℕ) → Depends N q P.rail1 → DependsRail N P q
       reach q d = inl d
 
+  -- the second rail has the value of the stated second rail over the word
   pub rail2_value : bit v P.rail2 ≡ value (word N P v) (rail2 P)
   unfolding DependsRail
   rail2_value = realised_value N P v settled (rail2 P) P.rail2 has.second reach
@@ -171,6 +173,7 @@ module _ (N : Circuit) (P : CodePlan) (made : IsWellMade P) (plan : IsPlanOf N P
       let law : RailsDiffer P (word N P v) ↔ IsCodeword P (word N P v) = rails_decide P (word N P v) made (word-length N P v plan) in
       (λ differ. law.0 (λ e. differ (one ∙ e ∙ sym two)), λ is. λ agree. law.1 is (sym one ∙ agree ∙ two))
 
+  -- where the rails realise those of a well-made plan of the netlist, the checker is sound
   pub checker_sound : IsSoundChecker N P
   checker_sound = record {
     rails = record { first = rail_outside (last_pair P).first P.rail1 has.first; second = rail_outside (last_pair P).second P.rail2 has.second };

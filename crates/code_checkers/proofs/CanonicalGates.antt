@@ -40,6 +40,7 @@ module _ (gates : List CheckGate) (ordered : AreOrdered gates) (distinct : (i k 
   gate_is n (gate.Or a b) low reads = let x : a < n = reads.0 in let y : b < n = reads.1 in ap₂ gate.Or (place_is a (omega arith)) (place_is b (omega arith))
   gate_is n (gate.Xor a b) low reads = let x : a < n = reads.0 in let y : b < n = reads.1 in ap₂ gate.Xor (place_is a (omega arith)) (place_is b (omega arith))
 
+  -- ordered gates, no two of which mean the same, are the gates of their signals
   pub gates_are : gates ≡ gates_of (signals_of gates)
   gates_are =
       let count : length (signals_of gates) ≡ length gates = length-signals_of gates in

@@ -106,7 +106,7 @@ code_pairs-some Berger P some shape = omega (arith, length-count_pairs P.outputs
     some_width k (suc width) some h = omega arith
 code_pairs-some MOutOfN P some shape = omega arith
 
--- the two halves of the bits behind a place have all of their ones
+-- the two halves of the bits after a place have all of their ones
 halves : (w : List Bool) (place half count : ℕ) → half ≤ count → length w ≡ place + count
     → ones (map (value w) (words_from place half)) + ones (map (value w) (words_from (place + half) (count - half))) ≡ ones (drop place w)
 halves w place half count within sized =
@@ -122,6 +122,7 @@ halves w place half count within sized =
         ∙ ap (λ k. take k (drop half (drop place w))) n
         ∙ take_rest (drop place w) half
 
+-- the pairs of the state bits from a place on all differ exactly where so many of these bits are 1 as the weight says
 pub state_pairs-decide : (place latches weight : ℕ) (w : List Bool) → (latches ≡ 0 → weight ≡ 0) → (0 < latches → (0 < weight) × (weight < latches)) → length w ≡ place + latches
     → (list_all (pair_differs w) (state_pairs place latches weight) ≡ true) ↔ (ones (drop place w) ≡ weight)
 state_pairs-decide place zero weight w none some sized =

@@ -20,6 +20,7 @@ length-signals_from signals [] = omega arith
 length-signals_from signals (g ∷ gates) =
     length-signals_from (signals ++ signal_of signals g ∷ []) gates ∙ omega (arith, length-append signals (signal_of signals g ∷ []))
 
+-- there are as many signals as gates
 pub length-signals_of : (gates : List CheckGate) → length (signals_of gates) ≡ length gates
 length-signals_of gates = length-signals_from [] gates ∙ omega arith
 

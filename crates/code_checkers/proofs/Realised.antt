@@ -28,7 +28,7 @@ gate_values w signals (gate.Or a b) some = truth-or (value w (signal_at signals 
 gate_values w signals (gate.Xor a b) some = truth-xor (value w (signal_at signals a)) (value w (signal_at signals b))
 
 module _ (N : Circuit) (P : CodePlan) (lo : ℕ) (before : (q : ℕ) → InFunction N P q → q < lo) (net : ℕ → ℕ) where
-  -- a node behind the function stands outside it
+  -- a node after the function stands outside it
   node_outside : (at : ℕ) (cover : CoverTable) (reads : List ℕ) → IsNodeFrom N lo at cover reads → IsGateNode N P at cover reads
   node_outside at cover reads g = record {
     driver = g.driver;
@@ -66,7 +66,7 @@ module _ (N : Circuit) (P : CodePlan) (lo : ℕ) (before : (q : ℕ) → InFunct
   rail_realised made s place rail h stand within means is =
       subst (λ (n : ℕ). Realises N P s n) is (subst (λ (t : Signal). Realises N P t (net place)) means (gates_realise made.gates h.ordered stand place within))
 
--- each rail of a checker whose gates all stand behind the function realises its gate
+-- each rail of a checker whose gates all stand after the function realises its gate
 pub rails_are_realised : (N : Circuit) (P : CodePlan) (lo : ℕ) (made : GateList) → IsCheckerOf P made → StandsFrom N P lo made
     → ((q : ℕ) → InFunction N P q → q < lo) → RailsRealise N P
 rails_are_realised N P lo made h stand before = record {

@@ -16,6 +16,7 @@ use Rattle.code_checkers.specs.Walk.{same_signal, with_signal, walk, same_gate, 
 use Rattle.code_checkers.proofs.Gates.{length-signals_of, signals_of-push, meaning-push, meaning-new}
 use Rattle.code_checkers.proofs.Kept.{Keeps-refl}
 
+-- each signal is found to be the same as itself
 pub same_signal-refl : (a : Signal) → same_signal a a ≡ true
 same_signal-refl (Word a) = eq-eqb a a refl
 same_signal-refl (Buf a) = same_signal-refl a
@@ -24,6 +25,7 @@ same_signal-refl (And a b) = and_from _ _ (same_signal-refl a) (same_signal-refl
 same_signal-refl (Or a b) = and_from _ _ (same_signal-refl a) (same_signal-refl b)
 same_signal-refl (Xor a b) = and_from _ _ (same_signal-refl a) (same_signal-refl b)
 
+-- signals that are found to be the same are equal
 pub same_signal-true : (a b : Signal) → same_signal a b ≡ true → a ≡ b
 same_signal-true (Word a) (Word c) h = ap Word (eqb-true a c h)
 same_signal-true (Buf a) (Buf c) h = ap Buf (same_signal-true a c h)
@@ -98,9 +100,11 @@ signals_from-at signals (g ∷ gates) zero n at lt reads =
 signals_from-at signals (g ∷ gates) (suc k) n at lt reads =
     signals_from-at (signals ++ signal_of signals g ∷ []) gates k n (omega (arith, length-append signals (signal_of signals g ∷ []))) (omega arith) reads
 
+-- in ordered gates a place means the signal of its gate
 pub meaning_is : (gates : List CheckGate) (k : ℕ) → AreOrdered gates → k < length gates → meaning gates k ≡ signal_of (signals_of gates) (gate_at gates k)
 meaning_is gates k ordered lt = signals_from-at [] gates k k (omega arith) lt (ordered k lt)
 
+-- a gate that reads only places below m reads only places below each n that is at least m
 pub reads_more : (m n : ℕ) (g : CheckGate) → m ≤ n → ReadsBelow m g → ReadsBelow n g
 reads_more m n (gate.Word p) h r = tt
 reads_more m n (gate.Buf x) h r = omega arith

@@ -45,6 +45,7 @@ same_sizes P S code outputs checks latches weight = by S.code S.outputs S.checks
     by : (c : Code) (o k l w : ℕ) → P.code ≡ c → P.outputs ≡ o → length P.checks ≡ k → P.latches ≡ l → P.weight ≡ w → sizes_of P ≡ record { code = c; outputs = o; checks = k; latches = l; weight = w }
     by c o k l w code outputs checks latches weight = cc
 
+-- the checker of a word's sizes and groups is the checker of each plan with these sizes and groups
 pub checker_of : (S : WordSizes) (groups : List (List ℕ)) (P : CodePlan) (made : GateList) → sizes_of P ≡ S → P.groups ≡ groups → IsWordChecker S groups made → IsCheckerOf P made
 checker_of S groups P made sizes grouped is =
     subst (λ (T : WordSizes). IsWordChecker T P.groups made) (sym sizes) (subst (λ (places : List (List ℕ)). IsWordChecker S places made) (sym grouped) is)
@@ -64,6 +65,7 @@ plan_with S version states = record {
   rail2 = 0;
 }
 
+-- sizes without groups have a plan, where the plan that is made of them is well made
 pub has_plan : (S : WordSizes) (version : ℕ) (states : List (List Bool)) → IsWellMade (plan_with S version states) → HasPlan S []
 has_plan S version states well = record {
   plan = plan_with S version states;

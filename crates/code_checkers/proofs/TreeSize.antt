@@ -150,7 +150,7 @@ own-part L (And a b) h = h.0
 own-part L (Or a b) h = h.0
 own-part L (Xor a b) h = h.0
 
--- the signals that a pair over a stretch of places needs: all different, of gates six for each two places but the first two
+-- the signals that a pair over a stretch of places needs: all different, of gates six for each two places except the first two
 record IsCounted (lo hi : ℕ) (p : Pair) : Type 0 where
   wide : lo < hi
   list : List Signal
@@ -428,6 +428,7 @@ one-counted lo hi [] some one all = absurd (omega arith)
 one-counted lo hi (a ∷ []) some one all = subst (λ (n : ℕ). IsCounted lo n a) all.2 all.1
 one-counted lo hi (a ∷ (b ∷ pairs)) some one all = absurd (omega arith)
 
+-- the pairs of a word are as many as their count says
 pub length-word_pairs : (place count : ℕ) → length (word_pairs place count) ≡ count
 length-word_pairs place zero = refl
 length-word_pairs place (suc count) = ap suc (length-word_pairs (place + 2) count)

@@ -52,6 +52,7 @@ level_shorter count [] h = omega arith
 level_shorter count (a ∷ []) h = omega arith
 level_shorter count (a ∷ (b ∷ pairs)) h = omega (arith, level_length pairs)
 
+-- the level over some pairs has at least one pair
 pub level_some : (pairs : List Pair) → 0 < length pairs → 0 < length (level pairs)
 level_some [] h = h
 level_some (a ∷ []) h = h

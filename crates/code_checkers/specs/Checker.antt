@@ -26,7 +26,7 @@ code_pairs_over Parity S groups = group_pairs S.outputs groups
 code_pairs_over Berger S groups = count_pairs S.outputs (reverse (count_zeros (words_from 0 S.outputs)))
 code_pairs_over MOutOfN S groups = threshold_pair (words_from 0 S.outputs) (words_from S.outputs S.checks) S.outputs ∷ []
 
--- with latches, one pair more: the first half of the next state's places, and the rest
+-- with latches, one more pair: the first half of the next state's places, and the rest
 abbrev pub state_pairs : ℕ → ℕ → ℕ → List Pair
 state_pairs place zero weight = []
 state_pairs place (suc latches) weight =
@@ -44,9 +44,11 @@ sizes_of P = record { code = P.code; outputs = P.outputs; checks = length P.chec
 abbrev pub code_pairs : Code → CodePlan → List Pair
 code_pairs code P = code_pairs_over code (sizes_of P) P.groups
 
+-- all pairs of a plan
 abbrev pub pairs_of : CodePlan → List Pair
 pairs_of P = pairs_over (sizes_of P) P.groups
 
+-- the pair that the tree over all pairs of a plan leaves
 abbrev pub last_pair : CodePlan → Pair
 last_pair P = tree (pairs_of P)
 
@@ -54,6 +56,7 @@ last_pair P = tree (pairs_of P)
 abbrev pub rail1 : CodePlan → Signal
 rail1 P = Buf (last_pair P).first
 
+-- the second rail
 abbrev pub rail2 : CodePlan → Signal
 rail2 P = Buf (last_pair P).second
 

@@ -25,6 +25,7 @@ gate_of signals (And a b) = gate.And (place_of signals a) (place_of signals b)
 gate_of signals (Or a b) = gate.Or (place_of signals a) (place_of signals b)
 gate_of signals (Xor a b) = gate.Xor (place_of signals a) (place_of signals b)
 
+-- the gates of signals, over the places of their operands among them
 abbrev pub gates_of : List Signal → List CheckGate
 gates_of signals = map (gate_of signals) signals
 
@@ -32,6 +33,7 @@ gates_of signals = map (gate_of signals) signals
 unfoldable pub checker_signals : CodePlan → List Signal
 checker_signals P = walk (rail2 P) (walk (rail1 P) [])
 
+-- the gates of a plan's checker, in the order of the walk
 abbrev pub checker_gates : CodePlan → List CheckGate
 checker_gates P = gates_of (checker_signals P)
 
@@ -40,7 +42,7 @@ abbrev pub gate_net : List ℕ → ℕ → CheckGate → ℕ
 gate_net word next (gate.Word place) = slice_index word place
 gate_net word next _ = next
 
--- the next net behind a gate
+-- the next net after a gate
 abbrev pub net_behind : ℕ → CheckGate → ℕ
 net_behind next (gate.Word place) = next
 net_behind next _ = next + 1
@@ -64,6 +66,7 @@ gate_nodes nets (g ∷ gates) = gate_node nets g ++ gate_nodes nets gates
 abbrev pub checker_nets : CodePlan → List ℕ → ℕ → List ℕ
 checker_nets P word next = gate_nets word next (checker_gates P)
 
+-- the nodes of a plan's checker
 abbrev pub checker_nodes : CodePlan → List ℕ → ℕ → List NodeOf
 checker_nodes P word next = gate_nodes (checker_nets P word next) (checker_gates P)
 
@@ -71,5 +74,6 @@ checker_nodes P word next = gate_nodes (checker_nets P word next) (checker_gates
 abbrev pub rail1_net : CodePlan → List ℕ → ℕ → ℕ
 rail1_net P word next = slice_index (checker_nets P word next) (place_of (checker_signals P) (rail1 P))
 
+-- the net of the second rail
 abbrev pub rail2_net : CodePlan → List ℕ → ℕ → ℕ
 rail2_net P word next = slice_index (checker_nets P word next) (place_of (checker_signals P) (rail2 P))

@@ -10,6 +10,7 @@ use Rattle.code_checkers.specs.Checker.{pairs_over, rail1, rail2}
 use Rattle.code_checkers.specs.Gates.{signals_of, meaning, AreOrdered}
 use Rattle.code_checkers.specs.Walk.{walk}
 
+-- a list of gates, and the places of its two rails
 pub record GateList : Type 0 where
   pub gates : List CheckGate
   pub rail1 : ℕ

@@ -18,7 +18,7 @@ cover_of (gate.And a b) = and_cover
 cover_of (gate.Or a b) = or_cover
 cover_of (gate.Xor a b) = xor_cover
 
--- the places that a gate reads, a pin each
+-- the places that a gate reads, one for each pin
 abbrev pub reads_of : CheckGate → List ℕ
 reads_of (gate.Word place) = []
 reads_of (gate.Buf a) = a ∷ []

@@ -40,6 +40,7 @@ abbrev pub chain_from : (Signal → Signal → Signal) → Signal → List Signa
 chain_from gate made [] = made
 chain_from gate made (a ∷ signals) = chain_from gate (gate made a) signals
 
+-- the chain of gates over signals, from the left; without signals it is the first bit of the word
 abbrev pub chain : (Signal → Signal → Signal) → List Signal → Signal
 chain gate [] = Word 0
 chain gate (a ∷ signals) = chain_from gate a signals

@@ -8,6 +8,7 @@ abbrev pub row_from : Signal → Signal → List Signal → List Signal
 row_from carried x [] = carried ∷ []
 row_from carried x (t ∷ row) = Or t carried ∷ row_from (And t x) x row
 
+-- the thresholds with more signals, one after another
 abbrev pub thresholds_from : List Signal → List Signal → List Signal
 thresholds_from row [] = row
 thresholds_from row (x ∷ signals) = thresholds_from (row_from x x row) signals
@@ -38,6 +39,7 @@ every_second chosen [] = []
 every_second true (x ∷ xs) = x ∷ every_second false xs
 every_second false (x ∷ xs) = every_second true xs
 
+-- the number is odd
 abbrev pub is_odd : ℕ → Bool
 is_odd n = n % 2 == 1
 

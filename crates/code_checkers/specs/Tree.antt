@@ -13,7 +13,7 @@ use Rattle.code_checkers.specs.CheckerNodes.{gate_nodes}
 abbrev pub rails_over : List Pair → Pair
 rails_over pairs = record { first = Buf (tree pairs).first; second = Buf (tree pairs).second }
 
--- the gates of a tree over so many pairs: six a cell, and the two buffers
+-- the gates of a tree over so many pairs: six per cell, and the two buffers
 abbrev pub tree_gates : ℕ → ℕ
 tree_gates pairs = 6 * (pairs - 1) + 2
 
@@ -26,6 +26,7 @@ word_pairs place (suc pairs) = record { first = Word place; second = Word (place
 abbrev pub tree_rail1 : ℕ → Signal
 tree_rail1 pairs = (rails_over (word_pairs 0 pairs)).first
 
+-- the second rail of the tree over so many pairs of a word
 abbrev pub tree_rail2 : ℕ → Signal
 tree_rail2 pairs = (rails_over (word_pairs 0 pairs)).second
 

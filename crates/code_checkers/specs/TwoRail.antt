@@ -21,9 +21,11 @@ abbrev pub levels : ℕ → List Pair → List Pair
 levels zero pairs = pairs
 levels (suc count) pairs = levels count (level pairs)
 
+-- what stands for the first pair where there is none
 abbrev pub no_pair : Pair
 no_pair = record { first = Word 0; second = Word 0 }
 
+-- the first pair, and `no_pair` where there is none
 abbrev pub head_pair : List Pair → Pair
 head_pair [] = no_pair
 head_pair (a ∷ pairs) = a

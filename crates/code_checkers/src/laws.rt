@@ -27,7 +27,7 @@ pub fn gate_values()
     ensures values { (w : List Bool) (signals : List Signal) (g : CheckGate) → 0 < length (reads_of g) → truth (cover_of g) (pin_values w signals g) ≡ value w (signal_of signals g) }
 {}
 
-/// A law: where the gates of a plan's checker all stand in a netlist behind its function, the rails at the plan's rails, each rail
+/// A law: where the gates of a plan's checker all stand in a netlist after its function, the rails at the plan's rails, each rail
 /// realises its gate.
 pub fn rails_are_realised()
     ensures realised { (N : Circuit) (P : CodePlan) (lo : ℕ) (made : GateList) → IsCheckerOf P made → StandsFrom N P lo made → ((q : ℕ) → InFunction N P q → q < lo) → RailsRealise N P }

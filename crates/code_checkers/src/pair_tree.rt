@@ -36,7 +36,7 @@ fn word_pairs(alloc: Global, draft: &mut Draft, count: usize) -> Result<Vec<Pair
 }
 
 /// The tree of two-rail cells over the pairs of a word: its rails differ exactly where the two bits of each pair do. The pair
-/// `k` stands at the places `2 * k` and `2 * k + 1`. Besides the places of the word it has six gates for each pair but the
+/// `k` stands at the places `2 * k` and `2 * k + 1`. Besides the places of the word it has six gates for each pair except the
 /// first, and the two buffers of the rails.
 ///
 /// # Errors

@@ -43,6 +43,7 @@ outputs_column k n lanes = sym (take-map (bit_worth k) n lanes)
 pub checks_column : (k m n : ℕ) (lanes : List ℕ) → column k (take m (drop n lanes)) ≡ take m (drop n (column k lanes))
 checks_column k m n lanes = outputs_column k m (drop n lanes) ∙ ap (take m) (sym (drop-map (bit_worth k) n lanes))
 
+-- leaving out the first n lanes, and then m more, leaves out as many bits of the word at point k
 pub next_column : (k m n : ℕ) (lanes : List ℕ) → column k (drop m (drop n lanes)) ≡ drop m (drop n (column k lanes))
 next_column k m n lanes = sym (drop-map (bit_worth k) m (drop n lanes)) ∙ ap (drop m) (sym (drop-map (bit_worth k) n lanes))
 
@@ -52,13 +53,6 @@ few_checks P is made =
     let shape : HasShape Berger P = subst (λ (code : Code). HasShape code P) is made.shape in
     let most = made.most_outputs in
     shape.1.1 7 (omega arith)
-
-pub as_many_checks : (P : CodePlan) → P.code ≡ MOutOfN → IsWellMade P → length P.checks ≤ 64
-as_many_checks P is made =
-    let shape : HasShape MOutOfN P = subst (λ (code : Code). HasShape code P) is made.shape in
-    let same : length P.checks ≡ P.outputs = shape.1 in
-    let most = made.most_outputs in
-    omega arith
 
 pub small_weight : (P : CodePlan) → IsWellMade P → P.latches ≤ 64 → P.weight ≤ 64
 small_weight P made few = ⊎_elim

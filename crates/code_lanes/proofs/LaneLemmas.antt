@@ -55,6 +55,7 @@ differ_bit k a b = bit_worth-xor k a b ∙ apart (bit_worth k a) (bit_worth k b)
 
 -- ---- columns
 
+-- the bit at a place of the word at point k is bit k of the lane at that place
 pub bit_of_column : (k : ℕ) (lanes : List ℕ) (place : ℕ) → bit (column k lanes) place ≡ bit_worth k (slice_index lanes place)
 bit_of_column k lanes place = ap (get_or (column k lanes) place) (sym (bit_worth-zero k)) ∙ get_or-map (bit_worth k) lanes place 0
 

@@ -21,11 +21,12 @@ abbrev pub stem_of : List (List ℕ) → Option SimFault
 stem_of words =
     option_and_then (λ held. option_map (λ spans. Stem (word_at words 2) held spans) (when_of (word_at words 4))) (held_of (word_at words 3))
 
--- `sim pin NET INDEX V WHEN`
+-- `sim pin NET INDEX V WHEN`, with this index
 abbrev pub pin_held : List (List ℕ) → ℕ → Option SimFault
 pin_held words index =
     option_and_then (λ held. option_map (λ spans. Pin (word_at words 2) index held spans) (when_of (word_at words 5))) (held_of (word_at words 4))
 
+-- `sim pin NET INDEX V WHEN`, with the index that the word names
 abbrev pub pin_of : List (List ℕ) → Option SimFault
 pin_of words = option_and_then (pin_held words) (number_of (word_at words 3))
 

@@ -26,6 +26,7 @@ abbrev pub span_cut : Option ℕ → List ℕ → Option Span
 span_cut None item = option_map (λ step. span step step) (number_of item)
 span_cut (Some at) item = option_and_then (λ first. span_to first (drop (at + 1) item)) (number_of (take at item))
 
+-- the span that an item names, cut at its first `-`, if it has one
 abbrev pub item_span : List ℕ → Option Span
 item_span item = span_cut (position (λ b. b == 45) item) item
 
@@ -34,7 +35,7 @@ abbrev pub is_above : Option ℕ → Span → Bool
 is_above None s = true
 is_above (Some last) s = nat_lt last s.first
 
--- the span of an item behind those spans
+-- the span of an item after those spans
 abbrev pub next_span : Option ℕ → List ℕ → Option Span
 next_span last item = option_and_then (λ s. if is_above last s then Some s else None) (item_span item)
 

@@ -21,21 +21,21 @@ pub enum Command {
     SynthKiss(MachineCode),
     /// `synth pla parity`, `synth pla duplex`, `synth pla berger` or `synth pla mofn`: from a PLA source to a netlist made in this way.
     SynthPla(Way),
-    /// `audit blif`, `audit kiss` or `audit pla`: from a source with a netlist behind it to a verdict.
+    /// `audit blif`, `audit kiss` or `audit pla`: from a source with a netlist after it to a verdict.
     Audit(SourceFormat),
-    /// `audit wide ROWS`: from a BLIF source with a netlist without latches behind it to a verdict, whatever the number of inputs, by decision
+    /// `audit wide ROWS`: from a BLIF source with a netlist without latches after it to a verdict, whatever the number of inputs, by decision
     /// diagrams of at most so many rows.
     AuditWide(RowCount),
-    /// `audit exact blif`, `audit exact kiss` or `audit exact pla`: from a source with a netlist behind it to whether one failing cell can make a
-    /// wrong output without an alarm.
+    /// `audit exact blif`, `audit exact kiss` or `audit exact pla`: from a source with a netlist after it to whether this follows it, and no one
+    /// failing cell makes a wrong output or next bit without an alarm, at any listed state and input.
     AuditExact(SourceFormat),
-    /// `audit mapped`: from a netlist with a mapped one behind it to whether this is the first one mapped cover by cover.
+    /// `audit mapped`: from a netlist with a mapped one after it to whether this is the first one mapped cover by cover.
     AuditMapped,
     /// `faults`: from a netlist to its fault list.
     Faults,
     /// `vectors`: from a netlist to its test vectors.
     Vectors,
-    /// `sim ..`: from a netlist with step lines behind it to a line a step, under this fault.
+    /// `sim ..`: from a netlist with step lines after it to one line per step, under this fault.
     Sim(SimFault),
     /// `join`: from netlists one after another to the one netlist of all of them, with one pair of rails.
     Join,

@@ -1,5 +1,5 @@
 //! What the program's words ask for.
-//! Its main type is `Request`, and of what is asked of a text `Command`.
+//! Its main types are `Request`, and `Command` for what is asked of a text.
 //! It stands on `synth_ways`, on `tsc_net` for codes and the steps of a fault, and on `tsc_io` and `tsc_text` for words and numbers.
 //! Its main promise: the request is the meaning of the words.
 //! Its definitions are in `specs/`: Words for those by position, WhenWords and SimWords for those of a simulation, Meaning for all.

@@ -10,8 +10,8 @@ use tsc_text::number;
 /// The most commas of a word: one fewer than its items.
 const MOST_COMMAS: usize = 63;
 
-/// The steps that a word names: for a number all steps from it on; else 1 to 64 items parted by `,`, each `a` for one step, `a-b` for
-/// a span, or, as the last, `a-` for all steps from a on, each item above the steps of the one before.
+/// The steps that a word names: for a number all steps from it on; else those of 1 to 64 items parted by `,`. An item is `a` for one step,
+/// `a-b` for a span, or, as the last, `a-` for all steps from a on. Each item is above the steps of the one before.
 pub fn when_of(alloc: Global, word: &[u8]) -> Result<Option<When>, AllocError>
     ensures when { IfOk result (λ when. when ≡ when_of word.now) }
 {
@@ -59,7 +59,7 @@ fn rising_spans(alloc: Global, word: &[u8]) -> Result<Option<When>, AllocError>
     Ok(Some(when))
 }
 
-/// The span of an item behind spans with this last step, if it begins above that.
+/// The span of an item after spans with this last step, if it begins above that.
 fn next_span(last: Option<u64>, item: &[u8]) -> Option<Span>
     ensures span { result ≡ next_span last item.now }
     ensures ordered { IfSome result (λ span. span.first ≤ span.last) }

@@ -1,5 +1,5 @@
 -- Rows of the functions that a cover states: they stay, and there is one more with each literal and each row.
-use Rattle.std.proofs.Common.{◌≡◌, ℕ, ◌+◌, ◌-◌, ◌<◌, Bool, true, false, IsTrue, List, [], length, slice_index_or, refl, sym, ap, ◌∙◌, subst, arith}
+use Rattle.std.proofs.Common.{◌≡◌, ℕ, ◌+◌, ◌-◌, ◌<◌, Bool, true, false, IsTrue, List, [], length, slice_index_or, sym, ap, ◌∙◌, subst, arith}
 use Rattle.std.proofs.lemmas.Bool.{false≢true, cases_lt}
 use Rattle.std.proofs.Math.Logic.{⊎_elim}
 use Rattle.tsc_bits.specs.Bits.{same, bit_worth}
@@ -16,6 +16,7 @@ use Rattle.cover_diagrams.proofs.RunningAnds.{literal_read}
 use Rattle.cover_diagrams.proofs.RunningOrs.{each_at, length_each}
 use Rattle.cover_diagrams.proofs.TruthLemmas.{each_of}
 
+-- a function that has a row has one after the diagrams grew
 pub HasRow-grows : (old new : DiagramState) (f : Function) → IsDiagram old.inputs old.rows → Grows old new → HasRow old f → HasRow new f
 HasRow-grows old new f D grown (k, stands) = (k, Grows-stands old new f k D grown stands)
 
@@ -32,10 +33,6 @@ AreRowsBuilt-grows old new rows ps n D grown built = record {
 }
 
 -- a literal
-asked_false : (wanted : Bool) → same false wanted ≡ true → wanted ≡ false
-asked_false true e = sym e
-asked_false false e = refl
-
 pub nothing_asked : (care wanted : Bool) → care ≡ false → IsTrue (asks_for false (literal care wanted)) → ⊥
 nothing_asked true wanted cares asked = false≢true (sym cares)
 nothing_asked false wanted cares asked = false≢true asked

@@ -20,6 +20,7 @@ zero_stands state D = record {
   is = record { at = λ x sized. value-constant state.inputs state.rows 0 x D (omega arith) sized };
 }
 
+-- rows that stand for the functions of pins stand for them after the diagrams grew
 pub pins_kept : (old mid : DiagramState) (ps : List Function) (pins : List ℕ) → IsDiagram old.inputs old.rows → Grows old mid → StandForPins old ps pins → StandForPins mid ps pins
 pins_kept old mid ps pins D grown P = record { sized = P.sized; at = λ i inside. Grows-stands old mid _ _ D grown (P.at i inside) }
 

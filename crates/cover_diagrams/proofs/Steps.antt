@@ -16,9 +16,11 @@ use Rattle.diagrams.proofs.Shortcuts.{value-constant}
 use Rattle.diagrams.proofs.Waits.{made_alone, stands_kept}
 use Rattle.cover_diagrams.specs.Covering.{Grows, negation, with_literal, IsLiteralKept}
 
+-- diagrams that stay as they are have grown
 pub Grows-refl : (state : DiagramState) → IsDiagram state.inputs state.rows → length state.rows ≤ state.room → Grows state state
 Grows-refl state D within = record { inputs = refl; room = refl; diagram = D; within = within; extends = Extends-refl state.rows }
 
+-- diagrams that grew twice have grown
 pub Grows-trans : (a b c : DiagramState) → Grows a b → Grows b c → Grows a c
 Grows-trans a b c m n = record {
   inputs = n.inputs ∙ m.inputs;
@@ -34,6 +36,7 @@ Grows-made old new f made =
     let m = made_alone old new f made in
     record { inputs = m.inputs; room = m.room; diagram = m.diagram; within = m.within; extends = m.extends }
 
+-- a row that stands for a function stands for it after the diagrams grew
 pub Grows-stands : (old new : DiagramState) (f : Function) (k : ℕ) → IsDiagram old.inputs old.rows → Grows old new → StandsFor old f k → StandsFor new f k
 Grows-stands old new f k D g stands = stands_kept old new f f k D g.extends g.inputs (λ x. refl) stands
 
@@ -60,9 +63,7 @@ negated_same state p pin D P =
     let both = combined_same state Xor p any_input pin 1 P (one_stands state D) in
     record { at = λ x sized. both.at x sized ∙ xor-one (p x) }
 
-pub Same-sym : (inputs : ℕ) (f g : Function) → Same inputs f g → Same inputs g f
-Same-sym inputs f g same = record { at = λ x sized. sym (same.at x sized) }
-
+-- a row stands for its own function
 pub own_stands : (state : DiagramState) (k : ℕ) → k < length state.rows → StandsFor state (value state.rows k) k
 own_stands state k node = record { node = node; is = record { at = λ x sized. refl } }
 

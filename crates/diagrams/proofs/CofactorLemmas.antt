@@ -58,6 +58,7 @@ of_one-cofactor inputs [] f g none c = absurd none
 of_one-cofactor inputs (e ∷ fs) f g (inl first) c = inl (cofactor_of_cofactor inputs e f g first c)
 of_one-cofactor inputs (e ∷ fs) f g (inr later) c = inr (of_one-cofactor inputs fs f g later c)
 
+-- a function that is the same as a cofactor of one of some functions is such a cofactor too
 pub of_one-same : (inputs : ℕ) (fs : List Function) (f g : Function) → IsCofactorOfOne inputs fs f → Same inputs g f → IsCofactorOfOne inputs fs g
 of_one-same inputs fs f g one same = of_one-cofactor inputs fs f g one (IsCofactor-same inputs f g same)
 

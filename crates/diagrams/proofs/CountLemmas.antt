@@ -286,6 +286,7 @@ constants_have_rows new fs D have = record { at = at }
     at (suc zero) d inside = (1, record { node = let two = D.constants in omega arith; is = record { at = λ x sized. value-constant new.inputs new.rows 1 x D (omega arith) sized } })
     at (suc (suc i)) d inside = have.at i d (omega arith)
 
+-- built from the constants for functions that all get rows, there are as many rows as different cofactors of these and the constants
 pub rows_counted : (old new : DiagramState) (fs : List Function) → old.rows ≡ constants old.inputs → AreMade old new fs → HaveRows new fs →
     length new.rows ≡ cofactor_count new.inputs (no_input ∷ any_input ∷ fs)
 rows_counted old new fs begun made have =

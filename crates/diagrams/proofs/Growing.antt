@@ -47,16 +47,18 @@ combined-kept inputs old new D more operation f g x node_f node_g =
 pub IsAt-kept : (old new : List Decision) → Extends old new → (level k : ℕ) → IsAt old level k → IsAt new level k
 IsAt-kept old new more level k at = record { node = let a = at.node in let b = more.longer in omega arith; above = subst (λ (d : Decision). level ≤ d.input) (sym (more.kept k at.node)) at.above }
 
+-- rows extend themselves
 pub Extends-refl : (rows : List Decision) → Extends rows rows
 Extends-refl rows = record { longer = omega arith; kept = λ k node. refl }
 
+-- rows that were extended twice have been extended
 pub Extends-trans : (a b c : List Decision) → Extends a b → Extends b c → Extends a c
 Extends-trans a b c m n = record {
   longer = let p = m.longer in let q = n.longer in omega arith;
   kept = λ k node. n.kept k (let p = m.longer in omega arith) ∙ m.kept k node;
 }
 
--- a row behind the others
+-- a row after the others
 pub row-push : (rows : List Decision) (d : Decision) → row (rows ++ d ∷ []) (length rows) ≡ d
 row-push rows d = get_or-append_seam rows d [] no_decision
 

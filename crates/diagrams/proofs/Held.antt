@@ -35,7 +35,7 @@ others_stay old new row (h ∷ held) kept apart =
     let same : decision_in new h ≡ decision_in old h = ap (λ words. decision_of (slice_index words 0)) (kept h (λ e. eqb-false row h both.0 (sym e))) in
     ap (λ d. d ∷ decisions_in new held) same ∙ ap (λ ds. decision_in old h ∷ ds) (others_stay old new row held kept both.1)
 
--- a row that wasn't out is written, and held behind the others
+-- a row that wasn't out is written, and held after the others
 pub decisions_in-push : (old taken : PoolState) (row : ℕ) (held : List ℕ) (d : Decision) → AreThoseOut old held → KeepsWords old taken → taken.width ≡ 1 → is_out old row ≡ false →
     WritesKeepOthers taken row → WritesAreRead taken row → IsSmall d →
     decisions_in (with_words taken row (word_of d ∷ [])) (held ++ row ∷ []) ≡ decisions_in old held ++ d ∷ []

@@ -31,11 +31,6 @@ pub constant_at : (inputs : ℕ) (rows : List Decision) → IsDiagram inputs row
 constant_at inputs rows D k at =
     ⊎_elim (λ small. small) (λ big. let below = (D.decides k big at.node).input in let above = at.above in absurd (omega arith)) (cases_lt k 2)
 
--- no row decides an input past the last
-pub input_within : (inputs : ℕ) (rows : List Decision) → IsDiagram inputs rows → (k : ℕ) → k < length rows → (row rows k).input ≤ inputs
-input_within inputs rows D k node =
-    ⊎_elim (λ small. let e = input_of_constant inputs rows D k small in omega arith) (λ big. let below = (D.decides k big node).input in omega arith) (cases_lt k 2)
-
 -- a step from a level stands at the next
 pub IsAt-step : (inputs : ℕ) (rows : List Decision) → IsDiagram inputs rows → (level k : ℕ) (b : Bool) → IsAt rows level k → level < inputs → IsAt rows (suc level) (step rows level k b)
 IsAt-step inputs rows D level k b at inside = ⊎_elim

@@ -24,10 +24,11 @@ constants inputs = constant inputs 0 ∷ constant inputs 1 ∷ []
 abbrev pub combined_rows : Operation → List Decision → ℕ → ℕ → Function
 combined_rows operation rows f g x = combined operation (value rows f x) (value rows g x)
 
--- the two constant functions
+-- the constant function 0
 abbrev pub no_input : Function
 no_input x = false
 
+-- the constant function 1
 abbrev pub any_input : Function
 any_input x = true
 
@@ -90,7 +91,7 @@ pub record IsRight (inputs : ℕ) (rows : List Decision) (memo : Memo) : Type 0 
 abbrev pub no_memo : Memo
 no_memo = record { operation = And; first = 0; second = 0; result = 0 }
 
--- each row but the constants is found by the word of its decision, and nothing else is
+-- each row except the constants is found by the word of its decision, and nothing else is
 pub record IsIndex {S : Type 0} (rows : List Decision) (index : HashMap ℕ ℕ S) : Type 0 where
   pub has : (k : ℕ) → 2 ≤ k → k < length rows → get nat_eq index (word_of (row rows k)) ≡ Some k
   pub finds : (word k : ℕ) → get nat_eq index word ≡ Some k → (2 ≤ k) × (k < length rows) × (word_of (row rows k) ≡ word)

@@ -90,7 +90,7 @@ impl DecisionRows {
         decision(self.pool.words(self.held.get(row as usize))[0])
     }
 
-    /// Adds a row behind the others.
+    /// Adds a row after the others.
     pub fn push(&mut self, added: Decision)
         requires room { length self.old.rows < self.old.room }
         requires small { IsSmall added }

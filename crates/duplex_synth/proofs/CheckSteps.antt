@@ -25,7 +25,7 @@ use Rattle.parity_code.proofs.PredictorCopy.{copies_nameable, copies_named}
 use Rattle.parity_code.specs.GroupChecks.{group_check_nets}
 use Rattle.parity_code.specs.SharedParts.{with_group_checks, group_check_texts, with_shared, shared_texts}
 
--- the places behind a group are fewer by its own
+-- the places after a group are fewer by its own
 pub group_behind : (items : List (List ℕ)) (i : ℕ) (item seen : List ℕ) → i < length items → item ≡ slice_index_or items i item → seen ≡ item
     → length (concat_places (drop i items)) ≡ length seen + length (concat_places (drop (i + 1) items))
 group_behind items i item seen within is same =

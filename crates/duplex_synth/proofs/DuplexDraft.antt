@@ -77,7 +77,7 @@ module _ (S : NetlistOf) (made : GateList) (h : IsDuplexable S made) where
       let small = h.small in
       omega (arith, none, few, small, logic_sized, counted, gates_few S.circuit (duplex_checks S.circuit) made h.gates h.fit, cone_few S.circuit S.circuit.outputs (kept_places S.circuit) cone, nodes_within S.circuit)
 
-  -- the logic is written behind the own covers
+  -- the logic is written after the own covers
   written : (net : List ℕ → ℕ) (last : ℕ) → length (duplex_logic S.circuit) ≤ last → AreNumbered S net last
       → Writes net (free_number S.names) 0 (own_parts S (kept_places S.circuit)) (with_shared S (kept_places S.circuit) (first_fit_groups S.circuit) (own_parts S (kept_places S.circuit))) (duplex_logic S.circuit)
   written net last room are =

@@ -24,7 +24,7 @@ joined_some shares (group ∷ groups) o = choose (list_any (shares o) group)
     choose true = omega arith
     choose false = omega arith
 
--- where one group is left, it is the output alone, or one group with the output behind it
+-- where one group is left, it is the output alone, or one group with the output after it
 joined_one : (shares : ℕ → ℕ → Bool) (groups : List (List ℕ)) (o : ℕ) (group : List ℕ) → joined shares groups o ≡ group ∷ []
     → ((groups ≡ []) × (group ≡ o ∷ [])) ⊎ ((g : List ℕ) × (groups ≡ g ∷ []) × (group ≡ g ++ o ∷ []))
 joined_one shares [] o group is = inl (refl, ap (λ (gs : List (List ℕ)). slice_index_or gs 0 []) (sym is))

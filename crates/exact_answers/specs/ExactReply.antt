@@ -44,7 +44,7 @@ abbrev pub IsExactReplyOf : Ending → Logic → NetlistOf → CodePlan → List
 IsExactReplyOf Finished M net plan answer = IsExactYes M net plan answer
 IsExactReplyOf Rejected M net plan answer = IsExactNo M net plan answer
 
--- the answer to lines: on the source that they begin with, and the netlist and the plan behind it
+-- the answer to lines: on the source that they begin with, and the netlist and the plan after it
 abbrev pub IsExactLinesReply : Ending → SourceFormat → List TextLine → List ℕ → Type 0
 IsExactLinesReply ending format lines answer =
     IsExactReplyOf ending (source_of format lines) (net_from lines (behind_source format lines)) (plan_from lines (behind_source format lines)) answer

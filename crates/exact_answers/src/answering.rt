@@ -1,4 +1,4 @@
-//! The exact audit of a text: of the netlist behind a source.
+//! The exact audit of a text: of the netlist after a source.
 ghost use Rattle.std.specs.Prelude.{◌≡◌, ◌≤◌, None, length, IfErr, IfOk, OnOk};
 ghost use Rattle.behaviour_audit.specs.Meaning.{FitsABench};
 ghost use Rattle.exact_audit.specs.ExactVerdict.{IsExactIn, IsExactVerdict};
@@ -25,8 +25,8 @@ use tsc_io::Bytes;
 use tsc_net::{Netlist, PlannedNetlist};
 use tsc_text::Lines;
 
-/// Whether any one failing cell of the netlist behind the source of this format that `text` begins with can make a wrong output without an
-/// alarm, decided at every listed state and input; if so, the first reason.
+/// Whether the netlist after the source of this format that `text` begins with follows it, and no one failing cell makes a wrong output or
+/// next bit without an alarm. It is decided at every listed state and input; if not, the first reason.
 ///
 /// # Errors
 ///
@@ -41,7 +41,7 @@ pub fn audit_exactly(alloc: Global, format: SourceFormat, text: &Bytes) -> Resul
     exact_lines(alloc, format, &lines)
 }
 
-/// The exact audit of the netlist behind the source of this format that the lines begin with.
+/// The exact audit of the netlist after the source of this format that the lines begin with.
 fn exact_lines(alloc: Global, format: SourceFormat, lines: &Lines) -> Result<Reply, Refusal>
     ensures answers { IfOk result (λ reply. IsExactLinesReply reply.ending format lines.now reply.bytes) }
     ensures allowed { OnOk result (audit_lines_refusal format lines.now ≡ None) }

@@ -89,7 +89,7 @@ fn push_what(out: &mut Bytes, net: &Netlist, why: PointReason) -> Result<(), All
     }
 }
 
-/// Appends a bit behind a blank.
+/// Appends a bit after a blank.
 fn push_bit(out: &mut Bytes, bit: bool) -> Result<(), AllocError>
     ensures word { OnOk result (out.new ≡ out.old ++ bit_word bit) }
 {

@@ -72,6 +72,7 @@ module _ (M : Logic) (N : Circuit) (P : CodePlan) (of : IsPlanOf N P) (made : Is
   the_same (No (reason.Point a)) (No (reason.Point b)) first second =
       ap (λ (r : PointReason). No (reason.Point r)) (some_is_one PointReason a b (one_point_answer N P (Some a) (Some b) first.1 second.1))
 
+-- of a source and a netlist with a well-made plan of it there is at most one exact verdict: two are the same
 pub one_exact_verdict : OneExactVerdict
 one_exact_verdict M N P first second of made is other = the_same M N P of made first second is other
 

@@ -15,9 +15,11 @@ use Rattle.audit.specs.Laws.{IsPlanned}
 use Rattle.audit.proofs.Accepted.{sound, self_checking_is_accepted}
 use Rattle.exact_audit.specs.ExactLaws.{ExactIsAlarmSecure, ExactShowsFaults, NetworksAreDecidedExactly, NoAtReachedRefutes, AuditedIsExact, SelfCheckingIsExact}
 
+-- a netlist with an exact yes is alarm-secure for its source, whichever one cell fails
 pub exact_is_alarm_secure : ExactIsAlarmSecure
 exact_is_alarm_secure M N P planned is = heard_at_points_is_alarm_secure M N P planned.plan_of planned.acyclic is.0.follows is.1
 
+-- with one listed fault, present at any steps, no wrong output of a netlist with an exact yes comes before its alarm
 pub exact_shows_faults : ExactShowsFaults
 exact_shows_faults M N P planned is f w xs vs us listed run held =
     alarm_secure_for_faults M N P f w xs vs us (exact_is_alarm_secure M N P planned is) listed run held
@@ -55,5 +57,6 @@ planned_of M N P is = record {
   plan_of = is.structure.plan_of;
 }
 
+-- a self-checking netlist that fits its source has an exact yes
 pub self_checking_is_exact : SelfCheckingIsExact
 self_checking_is_exact M N P is fits = audited_is_exact M N P (planned_of M N P is) (self_checking_is_accepted M N P is fits)

@@ -37,12 +37,12 @@ ExactShowsFaults = (M : Logic) (N : Circuit) (P : CodePlan) → IsPlanned N P �
     → (f : StuckAt) (w : List Bool) (xs vs us : List (List Bool)) → IsTrue (is_listed N f) → Runs N NoFault w xs vs → Runs N f w xs us
     → NoSilentError M N P xs vs us
 
--- of a netlist without latches that fits a source without free outputs, as a network is, it says yes exactly where the netlist is alarm-secure
+-- of a netlist without latches that fits a source which allows one list of outputs, it says yes exactly where the netlist is alarm-secure
 abbrev pub NetworksAreDecidedExactly : Type 0
 NetworksAreDecidedExactly = (M : Logic) (N : Circuit) (P : CodePlan) → AllowsOneOutput M P.version → IsPlanned N P → FitsSource M N P → length N.latches ≡ 0
     → IsExactVerdict M N P Yes ↔ IsAlarmSecure M N P
 
--- and each no behind the shape says that it isn't
+-- and each no of it says that it isn't
 abbrev pub NoOfANetworkRefutes : Type 0
 NoOfANetworkRefutes = (M : Logic) (N : Circuit) (P : CodePlan) (why : ExactReason) → AllowsOneOutput M P.version → IsPlanned N P → FitsSource M N P
     → length N.latches ≡ 0 → IsExactVerdict M N P (No why) → IsAlarmSecure M N P → ⊥

@@ -18,9 +18,9 @@ use std::alloc::{AllocError, Global};
 use tsc_net::{Netlist, Plan, SourceMeaning};
 use unheard_cells::point_reason;
 
-/// Whether any one failing cell can make a wrong output without an alarm, decided at every listed state and input: the first reason why
-/// the netlist isn't alarm-secure for the source, or yes. It tries each point of the source, and at each of them each cell, its net held
-/// at 0 and at 1. Nothing is asked of the netlist's structure.
+/// Whether the netlist follows its source, and no one failing cell makes a wrong output or next bit without an alarm, decided at every
+/// listed state and input: the first condition that doesn't hold, or yes. It tries each point of the source, and at each of them each
+/// cell, its net held at 0 and at 1. Nothing is asked of the netlist's structure.
 ///
 /// # Errors
 ///

@@ -8,8 +8,8 @@ pub fn exact_is_alarm_secure()
     ensures faults { ExactShowsFaults }
 {}
 
-/// A law: without latches, and where the source has no free output, the answer is yes exactly where the netlist is alarm-secure; each no of
-/// a netlist that fits says that it isn't.
+/// A law: of a netlist without latches that fits a source which allows one list of outputs at each state and input, the answer is yes
+/// exactly where it is alarm-secure; each no says that it isn't.
 pub fn networks_are_decided_exactly()
     ensures decided { NetworksAreDecidedExactly }
     ensures refuted { NoOfANetworkRefutes }

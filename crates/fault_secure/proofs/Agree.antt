@@ -15,6 +15,7 @@ module _ (P : ℕ → Type 0) (rank : ℕ → ℕ) (step : (net : ℕ) → ((m :
   below_rank zero net h = absurd (omega arith)
   below_rank (suc bound) net h = step net (λ m k. below_rank bound m (omega arith))
 
+  -- then it holds at each net
   pub by_rank : (net : ℕ) → P net
   by_rank net = below_rank (suc (rank net)) net (omega arith)
 
@@ -23,6 +24,7 @@ pub record TreatAlike (f g : StuckAt) (net : ℕ) : Type 0 where
   pub stem : (b : Bool) → on_stem f net b ≡ on_stem g net b
   pub pin : (k : ℕ) (b : Bool) → on_pin f net k b ≡ on_pin g net k b
 
+-- two lists of values that pins read are the same, where each net that is read gives the same bit at whatever pin
 pub reads_same : (f g : StuckAt) (v u : List Bool) (driver pin : ℕ) (reads : List ℕ)
     → ((i k : ℕ) → i < length reads → on_pin f driver k (bit v (slice_index reads i)) ≡ on_pin g driver k (bit u (slice_index reads i)))
     → read_values f v driver pin reads ≡ read_values g u driver pin reads
@@ -55,5 +57,6 @@ module _ (N : Circuit) (f g : StuckAt) (x y s t : ℕ → Bool) (v u : List Bool
   at_place rank ranks net (Beyond h) below seen =
       get_or_past v net false (subst (λ n. n ≤ net) (sym first.sized) h) ∙ sym (get_or_past u net false (subst (λ n. n ≤ net) (sym second.sized) h))
 
+  -- in an acyclic circuit both valuations have the same bit at each net of the set
   pub agree : Acyclic N → (net : ℕ) → Seen net → bit v net ≡ bit u net
   agree acyclic = by_rank (λ net. Seen net → bit v net ≡ bit u net) acyclic.rank (λ net below. at_place acyclic.rank acyclic.ranks net (place_of N net) below)

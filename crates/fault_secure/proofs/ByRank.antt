@@ -9,15 +9,18 @@ abbrev pub tabulate : ℕ → ℕ → (ℕ → Bool) → List Bool
 tabulate zero k h = []
 tabulate (suc n) k h = h k ∷ tabulate n (suc k) h
 
+-- the list of n tabulated bits has length n
 pub length_tabulate : (n k : ℕ) (h : ℕ → Bool) → length (tabulate n k h) ≡ n
 length_tabulate zero k h = refl
 length_tabulate (suc n) k h = ap suc (length_tabulate n (suc k) h)
 
+-- bit i of the n bits h k, h (k + 1) and so on is h (k + i), where i is below n
 pub tabulate_from : (n k i : ℕ) (h : ℕ → Bool) → i < n → bit (tabulate n k h) i ≡ h (k + i)
 tabulate_from zero k i h l = absurd (omega arith)
 tabulate_from (suc n) k zero h l = ap h (omega arith)
 tabulate_from (suc n) k (suc i) h l = tabulate_from n (suc k) i h (omega arith) ∙ ap h (omega arith)
 
+-- bit i of the n bits h 0, h 1 and so on is h i, where i is below n
 pub bit_tabulate : (n i : ℕ) (h : ℕ → Bool) → i < n → bit (tabulate n 0 h) i ≡ h i
 bit_tabulate n i h l = tabulate_from n 0 i h l ∙ ap h (omega arith)
 

@@ -19,26 +19,31 @@ node_value-gate N u j cover reads is =
     ap (λ n. truth n.cover (read_values NoFault u (node_net N j) 0 n.reads)) is
     ∙ ap (λ bits. truth cover bits) (read_values-no_fault u (node_net N j) 0 reads)
 
+-- the cover of BUF gives the bit of its pin
 pub truth-buf : (a : Bool) → truth buf_cover (a ∷ []) ≡ a
 truth-buf true = refl
 truth-buf false = refl
 
+-- the cover of NOT gives the other bit than that of its pin
 pub truth-not : (a : Bool) → truth not_cover (a ∷ []) ≡ not a
 truth-not true = refl
 truth-not false = refl
 
+-- the cover of AND gives 1 exactly where both pins are 1
 pub truth-and : (a b : Bool) → truth and_cover (a ∷ (b ∷ [])) ≡ (a && b)
 truth-and true true = refl
 truth-and true false = refl
 truth-and false true = refl
 truth-and false false = refl
 
+-- the cover of OR gives 1 exactly where a pin is 1
 pub truth-or : (a b : Bool) → truth or_cover (a ∷ (b ∷ [])) ≡ (a || b)
 truth-or true true = refl
 truth-or true false = refl
 truth-or false true = refl
 truth-or false false = refl
 
+-- the cover of XOR gives 1 exactly where its two pins differ
 pub truth-xor : (a b : Bool) → truth xor_cover (a ∷ (b ∷ [])) ≡ differ a b
 truth-xor true true = refl
 truth-xor true false = refl

@@ -19,6 +19,7 @@ nat_lt-not : (m n : ℕ) → n ≤ m → nat_lt m n ≡ false
 nat_lt-not m n h = grind (arith, nat_tests)
 
 module _ (N : Circuit) where
+  -- there is one count of pins per latch and per node
   pub length-pin_counts : length (pin_counts N) ≡ length N.latches + length N.nodes
   length-pin_counts =
       omega (

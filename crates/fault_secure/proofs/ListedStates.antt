@@ -9,6 +9,7 @@ use Rattle.fault_secure.specs.Exposing.{word_of_state, listed_states}
 use Rattle.tsc_bits.proofs.Lists.{found_at}
 use Rattle.fault_secure.proofs.EqualBits.{same_bits}
 
+-- where only state 0 has a word, a state that has a word is below 1
 pub zero_state : (q : ℕ) (w : List Bool) (b : Bool) → (q == 0) ≡ b → (if b then Some [] else None) ≡ Some w → q < 1
 zero_state q w true is e = grind (arith, nat_tests)
 zero_state q w false is e = let absent : None ≡ Some w = e in cc
@@ -18,6 +19,7 @@ state_listed : (b : Bool) (states : List (List Bool)) (q : ℕ) (w : List Bool)
 state_listed true states q w e = zero_state q w (q == 0) refl e
 state_listed false states q w e = slice_get_within states q w e
 
+-- a state that has a word is listed
 pub is_listed_state : (P : CodePlan) (q : ℕ) (w : List Bool) → word_of_state P q ≡ Some w → q < listed_states P
 is_listed_state P q w e = state_listed (P.latches == 0) P.states q w e
 
@@ -52,5 +54,6 @@ like P false some s q is =
     read (state ∷ states) (suc q) inside = read states q (omega arith)
     read [] q inside = absurd (omega arith)
 
+-- the state that is found for some bits has a word that agrees with them, as far as there are latches
 pub has_word_like : (P : CodePlan) (s : List Bool) (q : ℕ) → state_at P s ≡ Some q → HasWordLike P q s
 has_word_like P s q is = like P (P.latches == 0) refl s q is

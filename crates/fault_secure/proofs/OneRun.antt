@@ -68,12 +68,14 @@ module _ (N : Circuit) (f : StuckAt) (x s : ℕ → Bool) where
     nodes = λ j h. solution_driven (nets N) a.rank (drive N f x s) (drive_lower a.rank a.ranks) (node_net N j) (omega arith) ∙ drive_node _ j;
   }
 
+  -- in an acyclic circuit two valuations that settle are the same
   pub settles_once : Acyclic N → (v u : List Bool) → Settles N f x s v → Settles N f x s u → v ≡ u
   settles_once a v u first second =
       ext_get_or false v u (first.sized ∙ sym second.sized)
       (λ i h. agree N f f x x s s v u first second (λ net. Unit {0}) (λ j pin l k z. tt) (λ net h z. record { stem = λ b. refl; pin = λ k b. refl })
       (λ j l. refl) (λ l k z. refl) a i tt)
 
+-- in an acyclic circuit exactly one valuation settles
 pub one_valuation : OneValuation
 one_valuation N f x s a = record {
   valuation = settled N f x s a;
@@ -110,6 +112,7 @@ module _ (N : Circuit) (a : Acyclic N) (f : StuckAt) where
       ap₂ ◌∷◌ e (run_only (next_state N (present here f) (settled N (present here f) (bit x) (bit s) a)) w xs vs
       (subst (λ u. RunsFrom N f (next_state N (present here f) u) w xs vs) e h.1))
 
+-- in an acyclic circuit there is exactly one run over each list of inputs, with each fault present at any steps
 pub one_run : OneRun
 one_run N f w xs a e = record {
   run = run_from N a f (init_state N) w xs;

@@ -3,6 +3,7 @@ use Rattle.std.proofs.Common.{◌≡◌, ℕ, ◌+◌, ◌-◌, ◌<◌, ◌≤�
 use Rattle.std.proofs.lemmas.Bool.{cases_lt}
 use Rattle.fault_secure.specs.Circuit.{Circuit, latch_net, node_net, nets}
 
+-- a net lies among the inputs, the latch outputs or the nets that nodes drive, or past them all
 pub data Place (N : Circuit) (net : ℕ) : Type 0 where
   Input : net < N.inputs → Place N net
   Latch : (l : ℕ) → l < length N.latches → net ≡ latch_net N l → Place N net
@@ -21,5 +22,6 @@ from_start : (N : Circuit) (net : ℕ) → (net < N.inputs) ⊎ (N.inputs ≤ ne
 from_start N net (inl h) = Input h
 from_start N net (inr h) = past_inputs N net h (cases_lt net (N.inputs + length N.latches))
 
+-- each number has one of these places
 pub place_of : (N : Circuit) (net : ℕ) → Place N net
 place_of N net = from_start N net (cases_lt net N.inputs)

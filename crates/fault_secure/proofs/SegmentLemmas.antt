@@ -101,6 +101,7 @@ module _ (N : Circuit) (k h : ℕ) (sound : SoundTo N k) (segment : Segment N k 
             ])
       ]
 
+  -- where the nodes below k are sound, and those from k to h make a segment, the nodes below h are sound
   pub joined_sound : SoundTo N h
   joined_sound = record {
     rank = joined;

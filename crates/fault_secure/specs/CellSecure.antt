@@ -8,7 +8,7 @@ use Rattle.fault_secure.specs.Logic.{Logic}
 use Rattle.fault_secure.specs.FailingCell.{IsCell, RunsBut, HasOneRunBut}
 use Rattle.fault_secure.specs.FaultSecure.{Follows, IsQuiet, IsFlagged}
 
--- over every list of inputs there is exactly one run without a fault, and one for whatever bits a failing cell gives; without a fault
+-- over every list of inputs there is exactly one run without a fault, and one for whatever bits a failing cell gives. Without a fault
 -- it follows the source quietly; and with one failing cell no wrong output comes before its alarm
 pub record IsCellSecure (M : Logic) (N : Circuit) (P : CodePlan) : Type 0 where
   pub one_run : (w : List Bool) (xs : List (List Bool)) → length w ≡ length xs → HasOneRun N NoFault w xs

@@ -1,5 +1,5 @@
 -- Circuits. Nets are numbers: the inputs, then the latch outputs, then the nets that nodes drive, in text order.
--- A valuation is a list with one bit a net. Every read has a default, so no definition needs an index in range.
+-- A valuation is a list with one bit per net. Every read has a default, so no definition needs an index in range.
 use Rattle.std.specs.Prelude.{ℕ, ◌+◌, Bool, false, List, [], length, slice_index, slice_index_or}
 use Rattle.tsc_cover.specs.Cover.{CoverTable, zero_cover}
 
@@ -13,21 +13,26 @@ pub record NodeOf : Type 0 where
   pub reads : List ℕ
   pub cover : CoverTable
 
+-- a circuit: how many inputs it has, its latches, its nodes, and the nets that are its outputs
 pub record Circuit : Type 0 where
   pub inputs : ℕ
   pub latches : List LatchOf
   pub nodes : List NodeOf
   pub outputs : List ℕ
 
+-- what stands past the end of the latches: one that reads net 0 and holds 0 first
 abbrev pub no_latch : LatchOf
 no_latch = record { reads = 0; init = false }
 
+-- what stands past the end of the nodes: one without pins that is always 0
 abbrev pub no_node : NodeOf
 no_node = record { reads = []; cover = zero_cover }
 
+-- latch number l of the circuit, and `no_latch` past the end
 abbrev pub latch : Circuit → ℕ → LatchOf
 latch N l = slice_index_or N.latches l no_latch
 
+-- node number j of the circuit, and `no_node` past the end
 abbrev pub node : Circuit → ℕ → NodeOf
 node N j = slice_index_or N.nodes j no_node
 

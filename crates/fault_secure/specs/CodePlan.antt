@@ -36,9 +36,11 @@ word N P v = map (bit v) (monitored N P)
 abbrev pub outputs_of : CodePlan → List Bool → List Bool
 outputs_of P w = take P.outputs w
 
+-- the checks of a word: after its outputs, as many bits as the plan has checks
 abbrev pub checks_of : CodePlan → List Bool → List Bool
 checks_of P w = take (length P.checks) (drop P.outputs w)
 
+-- the next state's bits of a word: those after its outputs and checks
 abbrev pub next_of : CodePlan → List Bool → List Bool
 next_of P w = drop (length P.checks) (drop P.outputs w)
 
@@ -51,6 +53,7 @@ abbrev pub members_from : ℕ → List (List ℕ) → List (List ℕ)
 members_from check [] = []
 members_from check (group ∷ groups) = (group ++ check ∷ []) ∷ members_from (suc check) groups
 
+-- the groups of a plan as places of its word, each with its check; the checks come after the outputs, in order
 abbrev pub members : CodePlan → List (List ℕ)
 members P = members_from P.outputs P.groups
 
@@ -73,11 +76,12 @@ RailsAgree P v = bit v P.rail1 ≡ bit v P.rail2
 abbrev pub IsBergerWidth : ℕ → ℕ → Type 0
 IsBergerWidth k w = (k < 2 ^ w) × ((u : ℕ) → k < 2 ^ u → w ≤ u)
 
+-- the places of all groups, one group after another
 abbrev pub concat_places : List (List ℕ) → List ℕ
 concat_places [] = []
 concat_places (group ∷ groups) = group ++ concat_places groups
 
--- a check a group, no group is empty, and each output stands in the groups exactly once
+-- there is one check per group, no group is empty, and each output stands in the groups exactly once
 pub record HasGroups (P : CodePlan) : Type 0 where
   pub paired : length P.checks ≡ length P.groups
   pub filled : All (λ group. 0 < length group) P.groups
@@ -120,7 +124,7 @@ pub record IsWellMade (P : CodePlan) : Type 0 where
   pub states : HasStates P
 
 -- the plan is of the circuit: its nets are nets of the circuit, the circuit's outputs are the plan's and then the two rails,
--- and a state word has a bit a latch
+-- and a state word has one bit per latch
 pub record IsPlanOf (N : Circuit) (P : CodePlan) : Type 0 where
   pub outputs : length N.outputs ≡ P.outputs + 2
   pub rail1 : slice_index N.outputs P.outputs ≡ P.rail1

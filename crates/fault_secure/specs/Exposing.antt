@@ -1,4 +1,4 @@
--- Exposing points of a fault, self-testing netlists, and how many points there are. A point is a listed state, by its number, and a bit an input.
+-- Exposing points of a fault, self-testing netlists, and how many points there are. A point is a listed state, by its number, and one bit per input.
 use Rattle.std.specs.Prelude.{◌≡◌, ℕ, ◌+◌, ◌*◌, ◌^◌, ◌<◌, ◌==◌, ◌⊎◌, nat_lt, if◌then◌else◌, Bool, List, [], length, Option, Some, None, slice_get, IsTrue}
 use Rattle.tsc_bits.specs.Bits.{binary}
 use Rattle.fault_secure.specs.Circuit.{Circuit, latch_net, bit}
@@ -14,7 +14,7 @@ word_of_state P q = if P.latches == 0 then (if q == 0 then Some [] else None) el
 abbrev pub listed_states : CodePlan → ℕ
 listed_states P = if P.latches == 0 then 1 else length P.states
 
--- how many points there are, a listed state and an input each
+-- how many points there are: each is a listed state and an input
 abbrev pub point_count : Circuit → CodePlan → ℕ
 point_count N P = listed_states P * 2 ^ N.inputs
 

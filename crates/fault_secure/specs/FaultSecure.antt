@@ -35,6 +35,7 @@ pub record StepFollows (M : Logic) (N : Circuit) (P : CodePlan) (s x v : List Bo
   pub outputs : AllowsOutputs M P.version here x (outputs_in N P v)
   pub next_allowed : AllowsNext M P.version here x next
 
+-- from the state s on, each step that has both its input and its valuation follows the source
 abbrev pub FollowsFrom : Logic → Circuit → CodePlan → List Bool → List (List Bool) → List (List Bool) → Type 0
 FollowsFrom M N P s [] vs = Unit {0}
 FollowsFrom M N P s (x ∷ xs) [] = Unit {0}
@@ -92,7 +93,7 @@ pub record IsFlagged (M : Logic) (N : Circuit) (P : CodePlan) (xs vs us : List (
   pub no_silent_error : NoSilentError M N P xs vs us
 
 -- a netlist with its plan is fault-secure for a source: over every list of inputs there is exactly one run without a fault
--- and with each listed fault present at any steps; without a fault it follows the source quietly; and with a fault no wrong
+-- and with each listed fault present at any steps. Without a fault it follows the source quietly; and with a fault no wrong
 -- output comes before its alarm
 pub record IsFaultSecure (M : Logic) (N : Circuit) (P : CodePlan) : Type 0 where
   pub one_run : (f : StuckAt) (w : List Bool) (xs : List (List Bool)) → (f ≡ NoFault) ⊎ IsTrue (is_listed N f)

@@ -21,5 +21,6 @@ faults_from net (pins ∷ counts) = faults_at net pins ++ faults_from (net + 1) 
 abbrev pub pin_counts : Circuit → List ℕ
 pin_counts N = replicate (length N.latches) 1 ++ map (λ n. length n.reads) N.nodes
 
+-- the listed faults of a circuit: those of each latch and of each node, in the order of the nets that they drive
 abbrev pub listed_faults : Circuit → List StuckAt
 listed_faults N = faults_from N.inputs (pin_counts N)

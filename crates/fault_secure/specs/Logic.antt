@@ -16,6 +16,7 @@ pub record Transition : Type 0 where
   pub outputs : List Bool
   pub care : List Bool
 
+-- a state table: how many inputs, outputs and states it has, its reset state, and its rows
 pub record StateTable : Type 0 where
   pub inputs : ℕ
   pub outputs : ℕ
@@ -29,6 +30,7 @@ pub data Logic : Type 0 where
   States : StateTable → Logic
   Loose : Circuit → Circuit → Logic
 
+-- a row with this current state starts at state q; one with none starts at every state
 abbrev pub starts_at : Option ℕ → ℕ → Bool
 starts_at None q = true
 starts_at (Some from) q = from == q
@@ -51,6 +53,7 @@ abbrev pub outputs_of_rows : StateTable → List Transition → List Bool
 outputs_of_rows M [] = replicate M.outputs false
 outputs_of_rows M (row ∷ rows) = row.outputs
 
+-- the chosen next state: that of the first of these rows, and the reset state where there is none
 abbrev pub next_of_rows : StateTable → List Transition → ℕ
 next_of_rows M [] = M.reset
 next_of_rows M (row ∷ rows) = row.next
@@ -63,6 +66,7 @@ specifies row place = slice_index_or row.care place true
 abbrev pub is_free_output : ℕ → List Transition → ℕ → Bool
 is_free_output version rows place = (version == 2) && list_all (λ row. not (specifies row place)) rows
 
+-- under version 2 the next state is free where none of these rows names it
 abbrev pub is_free_next : ℕ → List Transition → Bool
 is_free_next version rows = (version == 2) && list_all (λ row. not row.named) rows
 
@@ -72,16 +76,19 @@ states_of (Network C) = 1
 states_of (States M) = M.states
 states_of (Loose V F) = 1
 
+-- the state that a source is reset to: that of a state table, and otherwise 0
 abbrev pub reset_of : Logic → ℕ
 reset_of (Network C) = 0
 reset_of (States M) = M.reset
 reset_of (Loose V F) = 0
 
+-- how many inputs a source has
 abbrev pub inputs_of : Logic → ℕ
 inputs_of (Network C) = C.inputs
 inputs_of (States M) = M.inputs
 inputs_of (Loose V F) = V.inputs
 
+-- how many outputs a source has
 abbrev pub outputs_count : Logic → ℕ
 outputs_count (Network C) = length C.outputs
 outputs_count (States M) = M.outputs
@@ -129,7 +136,7 @@ AllowsNext (Loose V F) version q x next = next ≡ 0
 AllowsNext (States M) version q x next =
     (next ≡ next_of_rows M (answering M q x)) ⊎ (IsTrue (is_free_next version (answering M q x)) × (next < M.states))
 
--- a row of a state table: as many literals as inputs, as many outputs and marks as outputs; its states are the table's, an output
+-- a row of a state table: as many literals as inputs, as many outputs and marks as outputs. Its states are the table's, an output
 -- that it doesn't specify is 0, and a next state that it doesn't name is the reset state
 pub record IsTransitionOf (M : StateTable) (row : Transition) : Type 0 where
   pub input : length row.input ≡ M.inputs

@@ -16,6 +16,7 @@ cover_literals c = sum_by row_literals c.rows
 abbrev pub literal_count : Circuit → ℕ
 literal_count C = sum_by (λ n. cover_literals n.cover) C.nodes
 
+-- how many rows all covers of the circuit have
 abbrev pub rows : Circuit → ℕ
 rows C = sum_by (λ n. length n.cover.rows) C.nodes
 

@@ -2,6 +2,7 @@
 use Rattle.std.specs.Prelude.{ℕ, ◌+◌, ◌-◌, ◌==◌, nat_lt, nat_le, Bool, true, false, ◌&&◌, if◌then◌else◌, length}
 use Rattle.fault_secure.specs.Circuit.{Circuit, node, nets}
 
+-- no fault, or a single one: a stem or a pin that is held at a bit
 pub data StuckAt : Type 0 where
   NoFault : StuckAt
   -- the net, wherever it is read, is held at the bit

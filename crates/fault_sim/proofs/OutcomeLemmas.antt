@@ -14,6 +14,7 @@ use Rattle.fault_sim.specs.declared.shown.Shown.{Shown}
 use Rattle.fault_sim.specs.declared.outcome.Outcome.{Outcome}
 use Rattle.fault_sim.proofs.ShownLemmas.{length-views, state_fits, state_of_number, taken_next, shows_valuation}
 
+-- the outcome of a simulation's next step is what a call of `step` answers and leaves
 pub outcome_call : OutcomesAreCalls
 outcome_call sim x outcome is = record {
   answers = is.shows;

@@ -62,6 +62,7 @@ answer_runs sim xs vs views calls runs =
     calls_along sim sim.bench.circuit sim.plan sim.fault sim.when sim.step sim.state
     (record { circuit = refl; plan = refl; fault = refl; when = refl; step = refl; state = refl }) xs vs views calls runs
 
+-- there is one bit for each input
 pub length-steps_held : (when : List Span) (step : ℕ) (xs : List (List Bool)) → length (steps_held when step xs) ≡ length xs
 length-steps_held when step [] = refl
 length-steps_held when step (x ∷ xs) = ap suc (length-steps_held when (step + 1) xs)

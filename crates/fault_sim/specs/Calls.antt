@@ -16,7 +16,7 @@ AreCalls sim (x ∷ xs) (view ∷ views) = (next : SimState) × IsCall sim x vie
 AreCalls sim [] (view ∷ views) = ⊥
 AreCalls sim (x ∷ xs) [] = ⊥
 
--- a bit an input: whether the fault is present at its step, the first step being number `step`
+-- one bit for each input: whether the fault is present at its step, the first step being number `step`
 abbrev pub steps_held : List Span → ℕ → List (List Bool) → List Bool
 steps_held when step [] = []
 steps_held when step (x ∷ xs) = has_step when step ∷ steps_held when (step + 1) xs

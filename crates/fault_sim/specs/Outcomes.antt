@@ -21,7 +21,7 @@ pub record AreOutcomes (N : Circuit) (P : CodePlan) (f : StuckAt) (states : ℕ)
   pub each : (s i : ℕ) (d : Outcome) → s < states → i < length xs
       → IsOutcome N P f (slice_index_or xs i []) (bits_of (length N.latches) s) (slice_index_or outcomes (s * length xs + i) d)
 
--- the simulation after one step more, with this state
+-- the simulation after one more step, with this state
 abbrev pub after : SimState → ℕ → SimState
 after sim state = record sim { step = sim.step + 1; state = bits_of (length sim.bench.circuit.latches) state }
 

@@ -90,7 +90,7 @@ fn settle_batch(
     bench.settle(points, fault.as_ref());
 }
 
-/// Puts the places from `first` on, one a point.
+/// Puts the places from `first` on, one for each point.
 fn put_batch(points: &mut Points, inputs: &[Bits], first: usize, count: usize)
     requires inputs { All (λ input. length input ≡ points.old.inputs) inputs.now }
     requires states { count ≤ 2 ^ points.old.latches * length inputs.now }

@@ -25,7 +25,7 @@ use tsc_net::{Bits, Fault, Netlist, Plan, When};
 
 /// A netlist that is run step by step, under no fault or one that is present at some steps. It borrows the netlist and its plan.
 /// It can't be dropped: `close` ends it. Contracts see its bench, whose circuit is the netlist without its names, its plan, its
-/// fault and the steps at which that is present, the number of its next step, from 0 on, and the state bits from which that starts.
+/// fault and the steps at which that is present. They see the number of its next step, from 0 on, and the state bits from which that starts.
 pub struct Sim<'a> {
     bench: Bench<'a>,
     points: Points,

@@ -11,6 +11,7 @@ use Rattle.gate_net.specs.Growth.{Grows}
 use Rattle.gate_net.specs.NetLines.{input_gates}
 use Rattle.gate_net.proofs.Once.{with_gate-missing}
 
+-- there are as many input gates as inputs
 pub inputs_counted : (count : ℕ) → length (input_gates count) ≡ count
 inputs_counted count = length-map-range_with_len gate.Input 0 count
 

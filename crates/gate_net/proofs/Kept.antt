@@ -16,6 +16,7 @@ use Rattle.gate_net.specs.Growth.{Grows, added_gates, IsAdded, AreAdded, Compute
 pub grows_not : (G : GateNetwork) → Grows G G
 grows_not G = record { inputs = refl; states = refl; first = take_all (length G.gates) G.gates (omega arith); count = omega arith; keeps = λ line h. refl }
 
+-- a network that grew twice has grown
 pub grows_twice : (a b c : GateNetwork) → Grows a b → Grows b c → Grows a c
 grows_twice a b c h k = record {
   inputs = k.inputs ∙ h.inputs;
@@ -40,9 +41,11 @@ pub gate_kept : (a b : GateNetwork) (line : Line) → Grows a b → IsLine a lin
 gate_kept a b line h within =
     ap (λ (gs : List Gate). gate_at gs line.number) (grown_gates a b h) ∙ get_or_append_left a.gates (added_gates a b) gate.Zero line.number within
 
+-- an earlier line is a line still
 pub line_kept : (a b : GateNetwork) (line : Line) → Grows a b → IsLine a line → IsLine b line
 line_kept a b line h within = omega (arith, h.count)
 
+-- earlier lines are lines still
 pub lines_kept : (a b : GateNetwork) (lines : List Line) → Grows a b → AreLines a lines → AreLines b lines
 lines_kept a b lines h within = λ k d lt. line_kept a b (slice_index_or lines k d) h (within k d lt)
 
@@ -96,6 +99,7 @@ pub values_step : (start here : GateNetwork) (x s : ℕ → Bool) (lines : List 
 values_step start here x s lines i d h within lt =
     map_more (line_value start x s) lines i d lt ∙ ap (λ (b : Bool). line_values start x s (take i lines) ++ b ∷ []) (sym (value_kept start here x s (get_or lines i d) h (within i d lt)))
 
+-- a line that was added with a signal computes the signal's value
 pub added_computes : (a b : GateNetwork) (signal : Signal) (line : Line) → IsAdded a b signal line → Computes a b (λ x s. value x s signal) line
 added_computes a b signal line h = record { value = λ x s. ap (value x s) h.means; within = h.within; grows = h.grows }
 

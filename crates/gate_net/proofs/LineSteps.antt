@@ -65,7 +65,7 @@ module _ (start here q : PartsOf) (G : GateNetwork) (owners names : List (Option
   owned : (line : Line) (c name : Name) → line.number ≡ length names → Some c ≡ Some name → slice_index_or owners place None ≡ Some c → HasName owners line name
   owned line c name at same own = ap (λ (j : ℕ). slice_index_or owners j None) (at ∙ sized) ∙ own ∙ same
 
-  -- a node came, behind a name that may have come too
+  -- a node came, after a name that may have come too
   by_node : (g : Gate) (c : Name) (mid : PartsOf) (reads : List Name) (cover : CoverTable) → g ≡ gate_at G.gates place → has_node g ≡ true → AllZip (HasName names) (operands g) reads → cover ≡ cover_of g
       → q ≡ with_node mid (texts_of mid.names reads) (text_of mid.names c) cover → mid.named ≡ here.named
       → ((line : Line) (name : Name) → line.number ≡ length names → Some c ≡ Some name → IsNewName here q owners line name)

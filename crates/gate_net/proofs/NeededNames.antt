@@ -29,7 +29,7 @@ use Rattle.gate_net.proofs.Lines.{nodes_two, same_name}
 use Rattle.gate_net.proofs.GateCovers.{gate_cover_is, buf_cover_is}
 use Rattle.gate_net.proofs.Whole.{AddsRoots, came_out, root_text, root_there, all_nodes, owner_root, roots_driven, line_realises}
 
--- a node that came stands behind those that were there
+-- a node that came stands after those that were there
 pub stands : (old new : PartsOf) (n : NamedNode) → Contains (added_nodes old new) n → (place : ℕ) × (length old.named.nodes ≤ place) × (place < length new.named.nodes) × (named_at new.named place ≡ n)
 stands old new n c =
     let lo = length old.named.nodes in

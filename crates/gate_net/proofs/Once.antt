@@ -32,6 +32,7 @@ pushed G g = record { inputs = G.inputs; states = G.states; gates = G.gates ++ g
 abbrev pub over : GateNetwork → List Gate → GateNetwork
 over G gates = record { inputs = G.inputs; states = G.states; gates = gates }
 
+-- a gate that is there already changes nothing
 pub with_gate-there : (G : GateNetwork) (g : Gate) → list_any (same_gate g) G.gates ≡ true → with_gate G g ≡ G
 with_gate-there G g e = ap (λ (b : Bool). over G (if b then G.gates else G.gates ++ g ∷ [])) e
 
@@ -54,6 +55,7 @@ pushed_grows G g = record {
   keeps = λ line h. signal_at-push G.gates g line.number h;
 }
 
+-- with a gate the network has grown
 pub with_gate-grows : (G : GateNetwork) (g : Gate) → Grows G (with_gate G g)
 with_gate-grows G g = by_cases (Grows G) G g (grows_not G) (λ e. pushed_grows G g)
 

@@ -46,6 +46,7 @@ pub root_value : (N : Circuit) (hi : ℕ) (x s : ℕ → Bool) (v : List Bool) (
 root_value N hi x s v signal net settled (inl r) = net_value N hi x s v signal net settled r
 root_value N hi x s v signal net settled (inr r) = buf_value N hi x s v signal net settled r
 
+-- nets that realise signals have the signals' values where the netlist settles without a fault
 pub all_values : (N : Circuit) (hi : ℕ) (x s : ℕ → Bool) (v : List Bool) (signals : List Signal) (nets : List ℕ) → Settles N NoFault x s v → AllRealise N hi signals nets → map (bit v) nets ≡ values x s signals
 all_values N hi x s v [] [] settled h = refl
 all_values N hi x s v [] (net ∷ nets) settled h = absurd h
@@ -109,6 +110,7 @@ pub root_cone : (N : Circuit) (hi : ℕ) (signal : Signal) (net q : ℕ) → Rea
 unfolding Before
 root_cone N hi signal net q r d = cone_of_root N hi signal net q r d
 
+-- where all monitored nets realise signals before place hi, each node of the function stands before hi
 pub function_before : (N : Circuit) (P : CodePlan) (hi : ℕ) (signals : List Signal) (q : ℕ) → AllRealise N hi signals (monitored N P) → InFunction N P q → q < hi
 function_before N P hi signals q h is =
     each_contained N hi (λ net. Depends N q net → q < hi) signals (monitored N P) (λ signal net r. root_cone N hi signal net q r) h is.monitors.0 is.net is.monitors.1

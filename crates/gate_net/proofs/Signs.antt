@@ -112,6 +112,7 @@ each_right N hi q (signal ∷ signals) (net ∷ nets) u h zero d lt depends = ro
 each_right N hi q (signal ∷ signals) (net ∷ nets) u h (suc k) d lt depends =
     each_right N hi q signals nets (λ j e below. u (suc j) e (omega arith)) h.1 k d (omega arith) depends
 
+-- a plan whose monitored nets all realise signals that negate only inputs is unate
 pub plan_unate : (N : Circuit) (P : CodePlan) (hi : ℕ) (signals : List Signal) → All NegatesInputs signals → AllRealise N hi signals (monitored N P) → IsUnate N P
 plan_unate N P hi signals u h = record {
   signs = λ q pin there is has out.
@@ -144,6 +145,7 @@ module _ (G : GateNetwork) (sound : IsHashed G) (negates : NegatesOnlyInputs G) 
   pub line_negates : (line : Line) → IsLine G line → NegatesInputs (meaning G line)
   line_negates line within = line_negates_below (suc line.number) line (omega arith) within
 
+-- lines of hashed gates that negate only inputs mean signals that negate only inputs
 pub lines_negate : (G : GateNetwork) (lines : List Line) → IsHashed G → NegatesOnlyInputs G → AreLines G lines → All NegatesInputs (meanings G lines)
 lines_negate G lines sound negates within =
     All-map NegatesInputs (meaning G) lines (λ k d lt. line_negates G sound negates (slice_index_or lines k d) (within k d lt))

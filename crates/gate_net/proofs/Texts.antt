@@ -10,12 +10,15 @@ use Rattle.tsc_net.proofs.NameLemmas.{has_text_at, place_within, text_at_place, 
 pub has_contained : (names : List (List ℕ)) (t : List ℕ) → Contains names t → has_text names t ≡ true
 has_contained names t c = has_text_at names t c.0 c.1 (get_or_default names c.0 [] t c.1 ∙ c.2)
 
+-- a text that a list has is one that it contains
 pub contained_has : (names : List (List ℕ)) (t : List ℕ) → has_text names t ≡ true → Contains names t
 contained_has names t e = subst (Contains names) (text_at_place names t e) (Contains-get_or names (place_of_text names t) [] (place_within names t e))
 
+-- a text that a list doesn't have is none that it contains
 pub lacks : (names : List (List ℕ)) (t : List ℕ) → has_text names t ≡ false → Contains names t → ⊥
 lacks names t e c = true≢false (sym (has_contained names t c) ∙ e)
 
+-- a text that a list doesn't contain is none that it has
 pub lacks_so : (names : List (List ℕ)) (t : List ℕ) → (Contains names t → ⊥) → has_text names t ≡ false
 lacks_so names t absent = by (has_text names t) refl
   where
@@ -92,6 +95,7 @@ module _ {X : Type 0} (text : X → List ℕ) (xs : List X) (h : IsNumbering (ma
       let same : c.0 ≡ i = h.distinct c.0 i (omega (arith, length-map xs text)) (omega (arith, length-map xs text)) (text_here c.0 x (omega arith) ∙ ap text is ∙ e ∙ sym (text_here i d lt)) in
       omega arith
 
+-- where a list contains an item, the list of its items' texts contains the item's text
 pub contains_map : {X : Type 0} (text : X → List ℕ) (xs : List X) (x : X) → Contains xs x → Contains (map text xs) (text x)
 contains_map text xs x c =
     let here : text_at (map text xs) c.0 ≡ text x = get_or-map text xs c.0 x [] c.1 ∙ ap text c.2 in

@@ -114,7 +114,7 @@ came_out old new t d =
     ∙ ap (λ (n : NamedNode). n.out) (get_or-drop lo new.named.nodes j no_named ∙ ap (λ (i : ℕ). get_or new.named.nodes i no_named) at) ∙ d.drives in
     subst (Contains (added_outs old new)) is (Contains-get_or (added_outs old new) j [] (omega (arith, length-map (added_nodes old new) (λ (n : NamedNode). n.out))))
 
--- gates were added for roots, and then Bufs: what is known of the parts before, between and behind
+-- gates were added for roots, and then Bufs: what is known of the parts before, between and after
 pub record AddsRoots (old here new : PartsOf) (G : GateNetwork) (roots : List Root) (owners names : List (Option Name)) : Type 0 where
   pub gates_extend : Extends old here
   pub bufs_extend : Extends here new

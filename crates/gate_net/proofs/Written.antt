@@ -53,6 +53,7 @@ extends_not p = record {
   latches = refl;
 }
 
+-- parts that were extended twice have been extended
 pub extends_twice : (a b c : PartsOf) → Extends a b → Extends b c → Extends a c
 extends_twice a b c h k = record {
   added = h.added ++ k.added;
@@ -213,7 +214,7 @@ module _ (q : PartsOf) (lo : ℕ) (G : GateNetwork) (names : List (Option Name))
   gate_realises (gate.Xor a b) (m ∷ (k ∷ [])) out e z n = (text_of q.names m, text_of q.names k, n, realise a m z.0, realise b k z.1.0)
   gate_realises (gate.Xor a b) (m ∷ (k ∷ (l ∷ reads))) out e z n = absurd z.1.1
 
--- a node that was written for a gate, behind a name that may be fresh
+-- a node that was written for a gate, after a name that may be fresh
 pub node_realises : (p here q : PartsOf) (g : Gate) (names : List (Option Name)) (reads : List Name) (out : Name) (cover : CoverTable)
     → Extends p here → here.named ≡ p.named → AreBelow (length p.names) names → AllZip (HasName names) (operands g) reads → cover ≡ cover_of g
     → q ≡ with_node here (texts_of here.names reads) (text_of here.names out) cover

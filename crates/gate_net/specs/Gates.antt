@@ -109,6 +109,6 @@ same_gate _ _ = false
 abbrev pub gates_with : List Gate → Gate → List Gate
 gates_with gates g = if list_any (same_gate g) gates then gates else gates ++ g ∷ []
 
--- the network with one gate more at the end, where it isn't among its gates
+-- the network with one more gate at the end, where it isn't among its gates
 abbrev pub with_gate : GateNetwork → Gate → GateNetwork
 with_gate G g = record { inputs = G.inputs; states = G.states; gates = gates_with G.gates g }

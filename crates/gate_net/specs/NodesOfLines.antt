@@ -22,7 +22,7 @@ cover_of (gate.Or a b) = or_cover
 cover_of (gate.Xor a b) = xor_cover
 cover_of _ = zero_cover
 
--- the lines that a gate reads, a pin each
+-- the lines that a gate reads, one for each pin
 abbrev pub operands : Gate → List Line
 operands (gate.Not a) = a ∷ []
 operands (gate.And a b) = a ∷ (b ∷ [])

@@ -44,7 +44,7 @@ NameIsRoot N lo signal out = NameRealises N lo signal out ⊎ ((m : List ℕ) ×
 abbrev pub RootsRealise : PartsOf → ℕ → GateNetwork → List Root → Type 0
 RootsRealise p lo G roots = All (λ root. NameIsRoot p.named lo (meaning G root.line) (text_of p.names root.name)) roots
 
--- the names that came are so many fresh ones, in order, and the next one is known: fresh names go on behind them
+-- the names that came are so many fresh ones, in order, and the next one is known: fresh names go on after them
 pub record AddsFreshNames (old new : PartsOf) : Type 0 where
   pub count : ℕ
   pub names : new.names ≡ (iterate with_fresh count old).names

@@ -31,8 +31,8 @@ pub fn realised_cones()
     ensures function { (N : Circuit) (P : CodePlan) (hi : ℕ) (signals : List Signal) (q : ℕ) → AllRealise N hi signals (monitored N P) → InFunction N P q → q < hi }
 {}
 
-/// A law: where a signal negates only inputs, each node that a root's net depends on has the right signs; so a plan is
-/// unate whose monitored nets all realise such signals, and the lines of gates that negate only inputs mean such signals.
+/// A law: where a signal negates only inputs, each node that a root's net depends on has the right signs. So a plan is
+/// unate where its monitored nets all realise such signals. And the lines of gates that negate only inputs mean such signals.
 pub fn realised_signs()
     ensures roots { (N : Circuit) (hi : ℕ) (signal : Signal) (net q : ℕ) → NegatesInputs signal → RealisesRoot N hi signal net → Depends N q net → HasRightSigns N q }
     ensures unate { (N : Circuit) (P : CodePlan) (hi : ℕ) (signals : List Signal) → All NegatesInputs signals → AllRealise N hi signals (monitored N P) → IsUnate N P }

@@ -20,7 +20,7 @@ use tsc_io::Items;
 use tsc_net::{Name, Parts};
 
 /// Adds a node for each gate that some root needs, in order, and is no input and no state bit. The node drives the name of
-/// the first root with its line, or else a fresh one. Every other root has a `Buf` over its line, behind these nodes.
+/// the first root with its line, or else a fresh one. Every other root has a `Buf` over its line, after these nodes.
 /// Each node has the cover of a gate or of a `Buf`, and some root needs what it drives.
 /// There are at most as many nodes as gates and roots together, and the names that come are the next fresh ones, in order.
 /// No two roots have the same name, and nothing in the parts gives a root's name. Where no two inputs and latches have the

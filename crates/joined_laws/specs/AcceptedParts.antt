@@ -20,7 +20,7 @@ answered_source (AuditWide rows) text = Some (source_in Blif text)
 answered_source (AuditExact format) text = Some (source_in format text)
 answered_source command text = synthesis_source command text
 
--- the netlist with its plan of which it does: the one behind the source that is audited, and the one that a synthesis answers
+-- the netlist with its plan of which it does: the one after the source that is audited, and the one that a synthesis answers
 abbrev pub answered_part : Command → List ℕ → List ℕ → PlannedOf
 answered_part (Audit format) text answer = record { net = second_netlist_in format text; plan = second_plan_in format text }
 answered_part (AuditWide rows) text answer = record { net = second_netlist_in Blif text; plan = second_plan_in Blif text }

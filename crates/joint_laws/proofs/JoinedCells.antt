@@ -29,6 +29,7 @@ sized_but N cell s (x ∷ xs) (u ∷ us) h zero l = let settled : SettlesBut N c
 sized_but N cell s (x ∷ xs) (u ∷ us) h (suc step) l = sized_but N cell (next_state N NoFault u) xs us h.1 step (omega arith)
 
 module _ (J : JointOf) (is : IsJoint J) where
+  -- a run of the joint without a fault is, on the nets of a part, a run of that part without a fault
   pub alone : (i : ℕ) (w : List Bool) (xs vs : List (List Bool)) → i < length J.parts → Runs J.circuit NoFault w xs vs
       → Runs (part J i).circuit NoFault w (inputs_over (part J i) xs) (run_over (part J i) vs)
   alone i w xs vs h run =
@@ -59,6 +60,7 @@ module _ (J : JointOf) (is : IsJoint J) where
       let there : (part J i).at c ≡ node_net J.circuit ((part J i).first_node + n) = ap (part J i).at here ∙ m.node_nets n k in
       omega arith
 
+-- a joint of parts that are secure against any one failing cell is so too, whichever cell of it fails
 pub joined_is_cell_secure : JoinedIsCellSecure
 joined_is_cell_secure M J is acyclic secure = record {
   one_run = λ w xs sized. one_run J.circuit NoFault w xs acyclic sized;

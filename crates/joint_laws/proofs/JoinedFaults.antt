@@ -53,6 +53,7 @@ part_fault J is i h (Pin driver index held) listed found = record {
       (pin_acts J.circuit (part J i).circuit (part J i).at (part J i).first_latch (part J i).first_node (is.stand i h) found.0 index held found.1);
 }
 
+-- a joint of fault-secure parts is fault-secure
 pub joined_is_fault_secure : JoinedIsFaultSecure
 joined_is_fault_secure M J is acyclic secure = record {
   one_run = λ f w xs listed sized. one_run J.circuit f w xs acyclic sized;
@@ -84,6 +85,7 @@ joined_is_fault_secure M J is acyclic secure = record {
         (runs_same (part J i).circuit NoFault w (inputs_over (part J i) xs) (run_over (part J i) vs) (run_over (part J i) us) one first second)
         ((secure i h).follows w (inputs_over (part J i) xs) (run_over (part J i) vs) first)
 
+-- a joint that is secure against any one failing cell is so against each listed fault
 pub cell_secure_joints_are_fault_secure : JointCellsCoverFaults
 cell_secure_joints_are_fault_secure M J acyclic secure = record {
   one_run = λ f w xs listed sized. one_run J.circuit f w xs acyclic sized;

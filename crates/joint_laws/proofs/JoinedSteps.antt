@@ -178,6 +178,7 @@ module _ (J : JointOf) (is : IsJoint J) where
             (subst (λ v. bit v (part J i).plan.rail1 ≡ bit v (part J i).plan.rail2) (at_part (part J i) us alarm.at before) alarm.rails_agree);
       }
 
+  -- where the tree works, and no wrong output of a part comes before its alarm, none comes before the joint's
   pub silent_joins : (M : Logic) (i : ℕ) → i < length J.parts → (xs vs us : List (List Bool)) → length us ≡ length xs → TreeWorksOver J us
       → NoSilentError M (part J i).circuit (part J i).plan (inputs_over (part J i) xs) (run_over (part J i) vs) (run_over (part J i) us)
       → NoSilentPart M J (part J i) xs vs us
@@ -190,6 +191,7 @@ module _ (J : JointOf) (is : IsJoint J) where
 
   -- ---- no fault in the part: its outputs are right
 
+  -- where a part's run is the one without a fault, and follows its source, no wrong output of it comes before the alarm
   pub right_stays : (M : Logic) (i : ℕ) → i < length J.parts → (xs vs us : List (List Bool)) → length us ≡ length xs
       → ((step : ℕ) → step < length us → length (at_step us step) ≡ nets J.circuit)
       → run_over (part J i) us ≡ run_over (part J i) vs

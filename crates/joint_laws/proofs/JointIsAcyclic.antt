@@ -260,8 +260,10 @@ module _ (inputs : ℕ) (ms : List MemberOf) (count : ℕ) (tree : List ℕ → 
       Inside : ℕ → Type 0
       Inside net = net < nets J.circuit
 
+-- the circuit of sound members and a tree over their rails is acyclic
 pub joint_circuit_is_acyclic : JointCircuitIsAcyclic
 joint_circuit_is_acyclic inputs ms count tree are ok is = acyclic inputs ms count tree are ok is
 
+-- the circuit of sound members and a tree over their rails is closed
 pub joint_circuit_is_closed : JointCircuitIsClosed
 joint_circuit_is_closed inputs ms count tree are ok is = closed inputs ms count tree are ok is

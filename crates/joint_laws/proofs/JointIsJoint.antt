@@ -63,6 +63,7 @@ all_shown shown (p ∷ ps) (suc i) h = all_shown (with_new shown (map p.at (own_
 
 -- ---- the tree
 
+-- there are two rails per part
 pub length-rails_of : (ps : List PartOf) → length (rails_of ps) ≡ 2 * length ps
 length-rails_of [] = refl
 length-rails_of (p ∷ ps) = omega (arith, length-rails_of ps)
@@ -75,6 +76,7 @@ module _ (inputs : ℕ) (ms : List MemberOf) (count : ℕ) (tree : List ℕ → 
   abbrev pub the_joint : JointOf
   the_joint = joint_of inputs ms count tree
 
+  -- the joint has as many latches as its members together
   pub many_latches : length the_joint.circuit.latches ≡ latches_in ms
   many_latches = length-latches_of inputs (latches_in ms) (inputs + latches_in ms + (nodes_in ms + count)) 0 0 ms
 
@@ -84,6 +86,7 @@ module _ (inputs : ℕ) (ms : List MemberOf) (count : ℕ) (tree : List ℕ → 
   pub many_parts : length the_joint.parts ≡ length ms
   many_parts = length-parts_from inputs (latches_in ms) (inputs + latches_in ms + (nodes_in ms + count)) 0 0 ms
 
+  -- the joint has as many nodes as its members and the tree together
   pub many_nodes : length the_joint.circuit.nodes ≡ nodes_in ms + count
   many_nodes =
       length-append (nodes_of the_joint.parts) (tree (rails_of the_joint.parts) (inputs + latches_in ms + nodes_in ms)).nodes
@@ -110,6 +113,7 @@ module _ (inputs : ℕ) (ms : List MemberOf) (count : ℕ) (tree : List ℕ → 
       (tree_nodes ∙ ap (λ next. (tree word next).nodes) (sym first_net)) sized settles)
       ∙ rails_differ v the_joint.parts
 
+-- members and a tree over their rails are a joint
 pub joint_circuit_is_joint : JointCircuitIsJoint
 joint_circuit_is_joint inputs ms count tree are is = record {
   stand = λ i h. (placed inputs ms count tree is are i h).stands;

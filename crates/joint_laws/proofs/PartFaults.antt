@@ -11,10 +11,11 @@ use Rattle.structure_laws.proofs.FailingCell.{fault_at, pins_of_input}
 use Rattle.joint_laws.specs.Parts.{StandsIn}
 use Rattle.joint_laws.proofs.PartBits.{ActsAs}
 
--- the cell of the joint is that of the part's net, or of none of its nets
+-- the cell of the joint is that of a cell of the part
 abbrev pub IsOfPart : Circuit → (ℕ → ℕ) → ℕ → Type 0
 IsOfPart C at cell = (c : ℕ) × IsCell C c × (at c ≡ cell)
 
+-- the cell of the joint is that of no cell of the part
 abbrev pub IsNotOfPart : Circuit → (ℕ → ℕ) → ℕ → Type 0
 IsNotOfPart C at cell = (c : ℕ) → IsCell C c → at c ≡ cell → ⊥
 
@@ -37,6 +38,7 @@ sought C at cell (suc last) = elim (sought C at cell last) [
   ]
 ]
 
+-- a cell of the joint is that of a cell of the part, or of none
 pub of_part_or_not : (C : Circuit) (at : ℕ → ℕ) (cell : ℕ) → IsOfPart C at cell ⊎ IsNotOfPart C at cell
 of_part_or_not C at cell = elim (sought C at cell (nets C)) [
   | inl found ↦ inl found

@@ -14,6 +14,7 @@ use Rattle.joint_laws.proofs.PartFaults.{IsNotOfPart, stem_acts, off_acts, cell_
 
 -- ---- runs without a fault, with marks of where none is present
 
+-- a run has as many steps as inputs, and so has the list of marks where its fault is present
 pub long_marks : (N : Circuit) (f : StuckAt) (s w : List Bool) (xs vs : List (List Bool)) → RunsFrom N f s w xs vs → (length w ≡ length xs) × (length vs ≡ length xs)
 long_marks N f s [] [] [] h = (refl, refl)
 long_marks N f s [] [] (v ∷ vs) h = absurd h
@@ -32,6 +33,7 @@ marked N s (here ∷ w) (x ∷ xs) [] e h = absurd h
 marked N s (true ∷ w) (x ∷ xs) (v ∷ vs) e h = (h.0, marked N (next_state N NoFault v) w xs vs (omega arith) h.1)
 marked N s (false ∷ w) (x ∷ xs) (v ∷ vs) e h = (h.0, marked N (next_state N NoFault v) w xs vs (omega arith) h.1)
 
+-- a run with a failing cell has as many steps as inputs
 pub long_failing : (N : Circuit) (cell : ℕ) (s : List Bool) (xs us : List (List Bool)) → RunsButFrom N cell s xs us → length us ≡ length xs
 long_failing N cell s [] [] h = refl
 long_failing N cell s [] (u ∷ us) h = absurd h

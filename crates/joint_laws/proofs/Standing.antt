@@ -21,6 +21,7 @@ length-latches_of inputs latches past fl fn (m ∷ ms) =
       length-latches_of inputs latches past (fl + length m.circuit.latches) (fn + length m.circuit.nodes) ms,
     )
 
+-- the parts have as many nodes as their members
 pub length-nodes_of : (inputs latches past fl fn : ℕ) (ms : List MemberOf) → length (nodes_of (parts_from inputs latches past fl fn ms)) ≡ nodes_in ms
 length-nodes_of inputs latches past fl fn [] = refl
 length-nodes_of inputs latches past fl fn (m ∷ ms) =
@@ -31,6 +32,7 @@ length-nodes_of inputs latches past fl fn (m ∷ ms) =
       length-nodes_of inputs latches past (fl + length m.circuit.latches) (fn + length m.circuit.nodes) ms,
     )
 
+-- there is one part per member
 pub length-parts_from : (inputs latches past fl fn : ℕ) (ms : List MemberOf) → length (parts_from inputs latches past fl fn ms) ≡ length ms
 length-parts_from inputs latches past fl fn [] = refl
 length-parts_from inputs latches past fl fn (m ∷ ms) = ap suc (length-parts_from inputs latches past (fl + length m.circuit.latches) (fn + length m.circuit.nodes) ms)
@@ -38,15 +40,18 @@ length-parts_from inputs latches past fl fn (m ∷ ms) = ap suc (length-parts_fr
 -- ---- where the nets of a member are
 
 module _ (inputs latches past fl fn : ℕ) (m : MemberOf) where
+  -- an input of the member is, in the joint, the net that the member names for it
   pub at_input : (i : ℕ) → i < m.circuit.inputs → net_at inputs latches past fl fn m i ≡ slice_index m.inputs i
   at_input i h = cond-true (nat_lt i m.circuit.inputs) _ _ (lt-ltb i m.circuit.inputs h)
 
+  -- latch l of the member is latch fl + l of the joint
   pub at_latch : (l : ℕ) → l < length m.circuit.latches → net_at inputs latches past fl fn m (latch_net m.circuit l) ≡ inputs + (fl + l)
   at_latch l h =
       cond-false (nat_lt (latch_net m.circuit l) m.circuit.inputs) _ _ (le-ltb _ _ (omega arith))
       ∙ cond-true (nat_lt (latch_net m.circuit l) (m.circuit.inputs + length m.circuit.latches)) _ _ (lt-ltb _ _ (omega arith))
       ∙ omega arith
 
+  -- node j of the member is node fn + j of the joint
   pub at_node : (j : ℕ) → j < length m.circuit.nodes → net_at inputs latches past fl fn m (node_net m.circuit j) ≡ inputs + latches + (fn + j)
   at_node j h =
       cond-false (nat_lt (node_net m.circuit j) m.circuit.inputs) _ _ (le-ltb _ _ (omega arith))

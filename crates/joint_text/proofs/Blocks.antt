@@ -19,7 +19,7 @@ use Rattle.module_join.specs.JoinLaws.{ArePlanned}
 use Rattle.joint_text.specs.JointNamed.{part_label, names_under, latches_under, nodes_under, shown_from, rail_names}
 use Rattle.joint_text.proofs.Follows.{Follow}
 
--- ---- latches and nodes behind others
+-- ---- latches and nodes after others
 
 pub latches-append : (names : List (List ℕ)) (at : ℕ) (xs ys : List LatchOf) → named_latches names at (xs ++ ys) ≡ named_latches names at xs ++ named_latches names (at + length xs) ys
 latches-append names at [] ys = let e : at ≡ at + 0 = omega arith in ap (λ n. named_latches names n ys) e

@@ -1,4 +1,4 @@
--- The texts before the lines of the parts, and behind them.
+-- The texts before the lines of the parts, and after them.
 use Rattle.std.proofs.Common.{◌≡◌, ℕ, ◌+◌, ◌*◌, List, [], ◌∷◌, ◌++◌, codes, length, refl, sym, ap, ap₂, subst, ◌∙◌, append_assoc, append-nil, arith}
 use Rattle.std.specs.List.{flat_map}
 use Rattle.tsc_net.specs.Names.{text_at}
@@ -14,7 +14,7 @@ use Rattle.module_join.proofs.TreeNodes.{tree_is_determined}
 use Rattle.joint_text.specs.JointNamed.{shown_from, rail_names, gate_names, named_gates, prefix_of, tree_names}
 use Rattle.joint_text.specs.Portions.{head_text, tail_text}
 
--- a line of `.names` behind a text
+-- a line of `.names` after a text
 line_pushed : (out : List ℕ) (words : List (List ℕ)) → after_end (after_words (out ++ codes ".names") words) ≡ out ++ line_text (line_of_words (codes ".names" ∷ words))
 line_pushed out words =
     after_lines-text out (line_of_words (codes ".names" ∷ words) ∷ []) (tt, tt)

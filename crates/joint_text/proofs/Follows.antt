@@ -1,4 +1,4 @@
--- Each part of the joint has its names there: the name of each of its nets is that behind the part's label.
+-- Each part of the joint has its names there: the name of each of its nets is that after the part's label.
 use Rattle.std.proofs.Common.{◌≡◌, ℕ, suc, ◌+◌, ◌-◌, ◌<◌, List, [], ◌∷◌, ◌++◌, length, slice_index_or, sym, ap, subst, ◌∙◌, append_assoc, arith, inl, inr}
 use Rattle.std.specs.Fmt.{decimal}
 use Rattle.std.proofs.lemmas.Bool.{cases_lt}
@@ -15,12 +15,12 @@ use Rattle.joint_text.specs.JointNamed.{part_label, names_under, prefix_of}
 use Rattle.joint_text.specs.JointTextLaws.{AreJoinable}
 use Rattle.joint_text.proofs.UnderNames.{under_input, under_own}
 
--- a name behind the label is the part's own text of it
+-- a name after the label is the part's own text of it
 pub label_text : (prefix : List ℕ) (i : ℕ) (name : List ℕ) → own_text prefix i name ≡ part_label prefix i ++ name
 label_text prefix i name =
     sym (append_assoc prefix (decimal i ++ 95 ∷ []) name ∙ ap (λ (t : List ℕ). prefix ++ t) (append_assoc (decimal i) (95 ∷ []) name))
 
--- the names of a part's nets, where they stand among these, are those behind its label
+-- the names of a part's nets, where they stand among these, are those after its label
 pub record Follows (names : List (List ℕ)) (prefix : List ℕ) (i : ℕ) (at : ℕ → ℕ) (p : PlannedOf) : Type 0 where
   pub named : (net : ℕ) → net < nets p.net.circuit → text_at names (at net) ≡ text_at (names_under (part_label prefix i) p.net) net
   pub within : (net : ℕ) → net < nets p.net.circuit → at net < length names

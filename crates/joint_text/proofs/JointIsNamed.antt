@@ -66,7 +66,7 @@ module _ (parts : List PlannedOf) (are : AreJoinable parts) where
   tree : IsTreeOf (length parts) (tree_made (length parts))
   tree = tree_is_made (length parts)
 
-  -- the word has two nets a part
+  -- the word has two nets per part
   wide : length (rails_of (joint parts).parts) ≡ 2 * length parts
   wide =
       length-rails_of (joint parts).parts

@@ -104,7 +104,7 @@ name_is b bytes h =
     let some : 1 ≤ length (b ∷ bytes) = omega arith in
     record { word = and_from (nat_le 1 (length (b ∷ bytes))) (list_all (is_word_byte false) (b ∷ bytes)) (le-leb 1 (length (b ∷ bytes)) some) h.word; allowed = h.allowed }
 
--- the prefix, behind its letter
+-- the prefix, after its letter
 prefix_fits : (n : ℕ) → n < 2 ^ 64 → Fits (lettered_prefix 112 n)
 prefix_fits n small =
     let digits : Fits (decimal n) = decimal_fits n small in

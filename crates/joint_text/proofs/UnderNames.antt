@@ -1,4 +1,4 @@
--- The names of a netlist's nets behind a label: each net's own name, behind the label where the net is no input.
+-- The names of a netlist's nets after a label: each net's own name, after the label where the net is no input.
 use Rattle.std.proofs.Common.{◌≡◌, ℕ, ◌+◌, ◌-◌, ◌<◌, ◌≤◌, List, [], ◌++◌, map, drop, length, ap, sym, ◌∙◌, arith}
 use Rattle.std.proofs.lemmas.List.{length-append, length-map, length-take-le, length-drop, get_or-map, get_or-take, get_or-drop, get_or-append-add}
 use Rattle.std.proofs.Math.ListN.{get_or-append}

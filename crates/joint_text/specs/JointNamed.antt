@@ -1,4 +1,4 @@
--- The joint netlist by names, part by part: the nets of a part, but its inputs, behind its label, and the tree over the names of the rails.
+-- The joint netlist by names, part by part: the nets of a part, except its inputs, after its label, and the tree over the names of the rails.
 use Rattle.std.specs.Prelude.{ℕ, ◌+◌, List, [], ◌∷◌, ◌++◌, map, take, drop, length, codes}
 use Rattle.std.specs.List.{range_with_len}
 use Rattle.tsc_net.specs.Named.{Named, NamedLatch, NamedNode}
@@ -15,7 +15,7 @@ use Rattle.module_join.specs.TreeNodes.{tree_made}
 abbrev pub part_label : List ℕ → ℕ → List ℕ
 part_label prefix i = own_text prefix i []
 
--- the names of a netlist's nets, each but those of the inputs behind a label
+-- the names of a netlist's nets, each after a label, except those of the inputs
 abbrev pub names_under : List ℕ → NetlistOf → List (List ℕ)
 names_under label net = input_names net ++ map (λ name. label ++ name) (drop net.circuit.inputs net.names)
 

@@ -7,7 +7,7 @@ abbrev pub spaced : List (List ℕ) → List ℕ
 spaced [] = []
 spaced (word ∷ words) = 32 ∷ (word ++ spaced words)
 
--- the end of the line of a row over so many pins: the bit of the set, behind a blank where there is a pin
+-- the end of the line of a row over so many pins: the bit of the set, after a blank where there is a pin
 abbrev pub row_end : ℕ → Bool → List ℕ
 row_end width on = cond (width == 0) (bit_character on ∷ 10 ∷ []) (32 ∷ bit_character on ∷ 10 ∷ [])
 

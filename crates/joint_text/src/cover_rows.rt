@@ -51,7 +51,7 @@ fn print_row<K: Sink>(
     print(sink, page, row_end(width, on))
 }
 
-/// The end of a row's line: the bit of the set, behind a blank where there is a pin.
+/// The end of a row's line: the bit of the set, after a blank where there is a pin.
 fn row_end(width: usize, on: bool) -> &'static [u8]
     ensures end { result.now ≡ row_end width on }
 {

@@ -1,4 +1,4 @@
-//! What is printed before the lines of the parts, and behind them.
+//! What is printed before the lines of the parts, and after them.
 ghost use Rattle.std.specs.Prelude.{◌≡◌, ◌++◌, [], ◌∷◌, codes, length, IfOk};
 ghost use Rattle.std.specs.List.{flat_map};
 ghost use Rattle.tsc_text.specs.Written.{text_of};
@@ -20,7 +20,7 @@ use std::alloc::{AllocError, Global};
 use tsc_io::{Bytes, Items, TextKey};
 use tsc_net::{NameTable, NameTexts, PlannedNetlist};
 
-/// What is printed before the lines of parts with these labels, and behind them, where these are the names of the joint's inputs and
+/// What is printed before the lines of parts with these labels, and after them, where these are the names of the joint's inputs and
 /// the prefix of its other names.
 ///
 /// # Errors

@@ -15,7 +15,7 @@ use tsc_io::{Items, TextKey};
 use tsc_net::{NameTable, PlannedNetlist};
 
 /// The joint of 1 to 64 netlists, each with a plan of it: they go under one pair of rails, and inputs of equal name are one input. Its
-/// tables of names are under the key of the text that the names are of. Beside the parts it takes a label a part, and the text of
+/// tables of names are under the key of the text that the names are of. Beside the parts it takes one label per part, and the text of
 /// the joint's inputs, outputs and tree.
 ///
 /// # Errors

@@ -4,7 +4,7 @@ use std::marker::Model;
 use tsc_io::{Bytes, Items};
 use tsc_net::{NameTexts, PlannedNetlist};
 
-/// What is printed before the lines of the parts, and behind them.
+/// What is printed before the lines of the parts, and after them.
 #[derive(Drop)]
 pub(crate) struct Ends {
     /// The lines of the model, the inputs and the outputs.

@@ -1,4 +1,4 @@
-//! The labels of parts, and the names of their nets behind them.
+//! The labels of parts, and the names of their nets after them.
 ghost use Rattle.std.specs.Prelude.{◌≡◌, ◌<◌, ◌++◌, map, IfOk};
 ghost use Rattle.std.specs.List.{range_with_len};
 ghost use Rattle.fault_secure.specs.Circuit.{nets};
@@ -46,7 +46,7 @@ pub fn label_before<'a>(label: &'a [u8], net: &Netlist, id: NetId) -> &'a [u8]
     }
 }
 
-/// The name of a net behind a label, where it is no input.
+/// The name of a net after a label, where it is no input.
 ///
 /// # Errors
 ///

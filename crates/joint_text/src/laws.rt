@@ -1,7 +1,7 @@
 //! Laws on the text of a joint. Their functions do nothing: what they say holds of all parts.
 ghost use Rattle.joint_text.specs.JointTextLaws.{JointIsNamed, JointTextIsCellSecure, JointTextIsFaultSecure, JointTextTells};
 
-/// A law: by names the joint netlist is, part by part, what the parts are, each net but the inputs behind the part's label, and then the
+/// A law: by names the joint netlist is, part by part, what the parts are, each net, except the inputs, after the part's label, and then the
 /// tree over the names of their rails.
 pub fn joints_are_named()
     ensures named { JointIsNamed }

@@ -1,5 +1,5 @@
 //! The text of the joint netlist of netlists with their plans, printed from the parts.
-//! Its main type is `Joint`, the parts and what is printed before and behind their lines; `join` makes it, and `print_joint` prints its text.
+//! Its main type is `Joint`, the parts and what is printed before and after their lines; `join` makes it, and `print_joint` prints its text.
 //! It stands on `module_join` (the joint netlist), `blif_write` (the layout of a netlist) and `buffered_sink` (printing through a page).
 //! Its main promise: what is printed is the layout of the joint netlist without plan lines, and denotes the joint netlist, which is secure where each part is.
 //! Definitions, in reading order: specs/JointText, JointNamed, Portions, JointTextLaws, JointView.

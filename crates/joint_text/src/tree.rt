@@ -90,7 +90,7 @@ fn gate_text(
     }
 }
 
-/// The number of the tree's next node behind a gate.
+/// The number of the tree's next node after a gate.
 fn number_behind(number: usize, gate: CheckGate) -> usize
     requires room { number + 1 < 2 ^ 64 }
     ensures number { result ≡ net_behind number gate }

@@ -57,7 +57,7 @@ pub fn line_end(label: &[u8], name: &[u8]) -> &'static [u8]
     }
 }
 
-/// The second of two texts, or the first where the second is empty: what they end in, one behind the other.
+/// The second of two texts, or the first where the second is empty: what they end in, one after the other.
 fn last_of<'a>(first: &'a [u8], second: &'a [u8]) -> &'a [u8]
     ensures last { ends_in 92 result.now ≡ ends_in 92 (first.now ++ second.now) }
 {

@@ -14,11 +14,12 @@ abbrev pub clash_or : Option ℕ → ℕ → Option Clash → Option Clash
 clash_or None place later = later
 clash_or (Some earlier) place later = Some (record { earlier = earlier; later = place })
 
--- the first row that conflicts with an earlier one, and the first with which it does, of rows that stand behind these
+-- the first row that conflicts with an earlier one, and the first with which it does, of rows that stand after these
 abbrev pub first_clash_behind : List Transition → List Transition → Option Clash
 first_clash_behind before [] = None
 first_clash_behind before (row ∷ rows) =
     clash_or (position (conflict row) before) (length before) (first_clash_behind (before ++ row ∷ []) rows)
 
+-- the first row that conflicts with an earlier one, and the first with which it does
 abbrev pub first_clash : List Transition → Option Clash
 first_clash rows = first_clash_behind [] rows

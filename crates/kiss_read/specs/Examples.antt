@@ -86,7 +86,7 @@ refusal-inputs : refusal (section (text (codes ".i 0" ∷ codes ".o 1" ∷ codes
 unfolding section text
 refusal-inputs = refl
 
--- names that don't fit their counts are refused behind all lines and before there is no row
+-- names that don't fit their counts are refused after all lines, and before a table without a row is
 refusal-names : refusal (section (text (codes ".ilb a b" ∷ codes ".i 1" ∷ codes ".o 1" ∷ codes ".ob" ∷ codes ".e" ∷ []))) ≡ Some (Header 4)
 unfolding section text
 refusal-names = refl

@@ -1,4 +1,4 @@
--- What is refused of a line, behind the lines before it.
+-- Why a line is refused, after the lines before it.
 use Rattle.std.specs.Prelude.{ℕ, ◌==◌, if◌then◌else◌, List, [], ◌∷◌, length, nat_le, nat_lt, Option, None, Some}
 use Rattle.tsc_text.specs.TextLine.{TextLine, the_word}
 use Rattle.tsc_text.specs.declared.which.Which.TheVariants.{NameBytes, Inputs as InputCount, Outputs as OutputCount, Rows as RowCount, States as StateLimit}
@@ -29,12 +29,12 @@ states_limit states (word ∷ words) =
     else (if nat_lt most_states (length (with_state states word)) then Some (Limit StateLimit)
     else states_limit (with_state states word) words)
 
--- the limit that a row passes, behind so many rows that name these states
+-- the limit that a row passes, after so many rows that name these states
 abbrev pub row_limit : ℕ → List (List ℕ) → TextLine → Option Cause
 row_limit rows states line =
     if nat_le most_rows rows then Some (Limit RowCount) else states_limit states (the_word line 1 ∷ the_word line 2 ∷ [])
 
--- the fault of a row: it doesn't stand behind both `.i` and `.o`, it has no row's shape, or it passes a limit
+-- the fault of a row: it doesn't stand after both `.i` and `.o`, it has no row's shape, or it passes a limit
 abbrev pub row_fault : Option ℕ → Option ℕ → ℕ → List (List ℕ) → TextLine → Option Cause
 row_fault (Some inputs) (Some outputs) rows states line =
     if has_row_shape inputs outputs line.words then row_limit rows states line else Some RowShape
@@ -52,7 +52,7 @@ directive_fault InputNames line = long_name (names_of line)
 directive_fault OutputNames line = long_name (names_of line)
 directive_fault _ line = None
 
--- the fault of a line of this kind behind these lines, with the lowest number where it has several
+-- the fault of a line of this kind after these lines, with the lowest number where it has several
 abbrev pub fault_of : List TextLine → LineKind → TextLine → Option Cause
 fault_of before PlanLine line = None
 fault_of before OtherDirective line = Some Unsupported
@@ -60,7 +60,7 @@ fault_of before Row line =
     row_fault (count_in Inputs before) (count_in Outputs before) (length (rows_of before)) (states_of_lines before) line
 fault_of before kind line = unless_before (has_line kind before) (directive_fault kind line)
 
--- the fault of a line behind these lines
+-- the fault of a line after these lines
 abbrev pub fault_behind : List TextLine → TextLine → Option Cause
 fault_behind before line = fault_of before (kind_of line) line
 

@@ -24,9 +24,11 @@ cause_refusal line cause.Unsupported = Unsupported line
 cause_refusal line cause.RowShape = RowShape line
 cause_refusal line (cause.Limit which) = Limit line which
 
+-- the refusal of a line with this fault
 abbrev pub line_refusal : LineFault → KissError
 line_refusal fault = cause_refusal fault.line fault.cause
 
+-- the refusal of a line's fault, where there is one
 abbrev pub refusal_of_line : Option LineFault → Option KissError
 refusal_of_line None = None
 refusal_of_line (Some fault) = Some (line_refusal fault)
@@ -53,6 +55,7 @@ abbrev pub clash_refusal : List ℕ → Option Clash → Option KissError
 clash_refusal lines None = None
 clash_refusal lines (Some clash) = Some (Conflict (slice_index lines clash.earlier) (slice_index lines clash.later))
 
+-- the refusal of a machine whose rows conflict, by the numbers of their lines
 abbrev pub conflict_refusal : MachineOf → Option KissError
 conflict_refusal machine = clash_refusal machine.lines (first_clash machine.table.rows)
 

@@ -18,6 +18,7 @@ has_row_shape inputs outputs _ = false
 abbrev pub is_one : ℕ → Bool
 is_one character = character == 49
 
+-- the output is specified: its character isn't `-`
 abbrev pub is_specified : ℕ → Bool
 is_specified character = not (character == 45)
 

@@ -9,6 +9,7 @@ use Rattle.kiss_read.specs.LineKind.{kind_of, same_kind}
 use Rattle.kiss_read.specs.declared.kinds.LineKind.{LineKind}
 use Rattle.kiss_read.specs.declared.kinds.LineKind.TheVariants.{Inputs, Outputs, Row}
 
+-- the line is of the kind
 abbrev pub is_of : LineKind → TextLine → Bool
 is_of kind line = same_kind kind (kind_of line)
 
@@ -16,6 +17,7 @@ is_of kind line = same_kind kind (kind_of line)
 abbrev pub line_of : LineKind → List TextLine → Option TextLine
 line_of kind lines = find (is_of kind) lines
 
+-- there is a line of the kind
 abbrev pub has_line : LineKind → List TextLine → Bool
 has_line kind lines = is_some (line_of kind lines)
 
@@ -27,6 +29,7 @@ count_in kind lines = option_map number_in (line_of kind lines)
 abbrev pub inputs_of : List TextLine → ℕ
 inputs_of lines = unwrap_or (count_in Inputs lines) 0
 
+-- how many outputs the lines state
 abbrev pub outputs_of : List TextLine → ℕ
 outputs_of lines = unwrap_or (count_in Outputs lines) 0
 

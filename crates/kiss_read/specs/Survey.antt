@@ -16,7 +16,7 @@ survey_of lines = record {
   states = states_of_lines lines;
 }
 
--- what is seen behind one more line of this kind
+-- what is seen after one more line of this kind
 abbrev pub survey_behind : Survey → LineKind → TextLine → Survey
 survey_behind survey Inputs line = record survey { inputs = Some (number_in line) }
 survey_behind survey Outputs line = record survey { outputs = Some (number_in line) }

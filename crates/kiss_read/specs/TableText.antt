@@ -18,9 +18,11 @@ abbrev pub reset_at : Option TextLine → List (List ℕ) → List TextLine → 
 reset_at (Some line) states rows = place_of_text states (the_word line 1)
 reset_at None states rows = first_state states rows
 
+-- the number of the reset state of the lines' table
 abbrev pub reset_of : List TextLine → ℕ
 reset_of lines = reset_at (line_of Reset lines) (states_of_lines lines) (rows_of lines)
 
+-- the state table that the lines denote
 abbrev pub table_text : List TextLine → StateTable
 table_text lines = record {
   inputs = inputs_of lines;

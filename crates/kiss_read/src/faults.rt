@@ -1,4 +1,4 @@
-//! What is refused of a line, behind the lines before it.
+//! Why a line is refused, after the lines before it.
 ghost use Rattle.std.specs.Prelude.{◌≡◌, ◌<◌, ◌≤◌, ◌∷◌, [], length, take};
 ghost use Rattle.tsc_text.specs.TextLine.{the_line};
 ghost use Rattle.kiss_read.specs.Selections.{names_state, with_state};
@@ -19,7 +19,7 @@ use tsc_text::{SectionLines, TextLine, Which};
 /// The greatest number of states.
 const MOST_STATES: usize = 4096;
 
-/// The fault of the line at a place behind those before it, with the lowest number where it has several. It takes no memory.
+/// The fault of the line at a place after those before it, with the lowest number where it has several. It takes no memory.
 pub fn fault_at(survey: &Survey, section: &SectionLines, place: usize) -> Option<Cause>
     requires place { place < length section.now }
     requires few { length survey.now.states ≤ 4096 }

@@ -74,7 +74,7 @@ fn read_text(
     })
 }
 
-/// What a section denotes.
+/// What a section denotes, with a name for each input and each output. The names are all different, and each has at most 255 bytes.
 ///
 /// # Errors
 ///

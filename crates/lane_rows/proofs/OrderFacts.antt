@@ -22,12 +22,15 @@ reads_within C closed j hj reads same k d hk =
     omega (arith, pin, is, is')
 
 module _ (C : Circuit) (order : List ℕ) (whole : IsOrder (fan_ins C) order) where
+  -- there are as many fan-ins as nodes
   pub fans_sized : length (fan_ins C) ≡ length C.nodes
   fans_sized = length-map C.nodes (λ (n : NodeOf). fan_in (C.inputs + length C.latches) n.reads)
 
+  -- the order has as many places as there are nodes
   pub order_sized : length order ≡ length C.nodes
   order_sized = whole.sized ∙ fans_sized
 
+  -- what stands at a place of the order is a node
   pub node_within : (place : ℕ) → place < length order → slice_index order place < length C.nodes
   node_within place h =
       let within : slice_index order place < length (fan_ins C) = whole.within place 0 h in
@@ -36,12 +39,15 @@ module _ (C : Circuit) (order : List ℕ) (whole : IsOrder (fan_ins C) order) wh
   pub net_within : (place : ℕ) → place < length order → net_at C order place < nets C
   net_within place h = let within = node_within place h in omega (arith, within)
 
+  -- the place of the node that stands at a place is this place
   pub place_of_node : (place : ℕ) → place < length order → place_in order (slice_index order place) ≡ place
   place_of_node place h = whole.once place h
 
+  -- each node has a place in the order
   pub node_placed : (j : ℕ) → j < length C.nodes → place_in order j < length order
   node_placed j h = whole.each j (omega (arith, fans_sized))
 
+  -- at the place of a node stands this node
   pub node_at_place : (j : ℕ) → j < length C.nodes → slice_index order (place_in order j) ≡ j
   node_at_place j h =
       eqb-true (slice_index order (place_in order j)) j (passes_at_first (λ k. k == j) order 0 (node_placed j h))

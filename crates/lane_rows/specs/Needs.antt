@@ -1,4 +1,4 @@
--- Places from which on nets aren't needed: a number a net.
+-- Places from which on nets aren't needed: one number for each net.
 use Rattle.std.specs.Prelude.{◌≡◌, ℕ, ◌<◌, ◌≤◌, nat_lt, List, length, take, drop, slice_index}
 use Rattle.std.specs.List.{list_any}
 use Rattle.fault_secure.specs.Circuit.{Circuit, nets}

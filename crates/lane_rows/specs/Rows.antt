@@ -1,4 +1,4 @@
--- Rows for the nets of a circuit: a list with one entry a net, none for a net without a row.
+-- Rows for the nets of a circuit: a list with one entry per net, none for a net without a row.
 use Rattle.std.specs.Prelude.{◌≡◌, ℕ, ◌<◌, true, false, List, length, slice_index_or, Option, Some, None, IsSome}
 use Rattle.fault_secure.specs.Circuit.{Circuit, node_net, nets}
 use Rattle.tsc_net.specs.Order.{has_place}

@@ -71,7 +71,7 @@ lone_row block row p inside =
     let at : 0 * 16 + p / 64 ≡ p / 64 = omega arith in
     ap (λ n. bit_worth (p % 64) (slice_index (row_words block row) n)) at ∙ row_lanes block row p inside
 
--- ---- the lanes of nets, net behind net
+-- ---- the lanes of nets, net after net
 
 pub more_lanes : (C : Circuit) (f : StuckAt) (points : PointsState) (shown : List NetId) (place : ℕ) (d : NetId) (old new lanes : List ℕ) → place < length shown
     → HaveLanesUnder C f points (net_numbers shown) place old

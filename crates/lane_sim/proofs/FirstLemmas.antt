@@ -26,7 +26,7 @@ pub none_set : (word from : ℕ) → word / 2 ^ from ≡ 0 → IsFirstIn (λ k. 
 none_set word from zero p past below is =
     true≢false (sym is ∙ sym (bit_past word from p past) ∙ ap (bit_worth (p - from)) zero ∙ ap (λ b. eqb b 1) (bit_at-zero (p - from)))
 
--- a word of 64 bits has no bit behind them
+-- a word of 64 bits has no bit after them
 no_bit : (word k : ℕ) → word < 2 ^ 64 → 64 ≤ k → bit_worth k word ≡ true → ⊥
 no_bit word k fits past is =
     let far : 2 ^ 64 ≤ 2 ^ k = pow_mono past in
@@ -55,6 +55,7 @@ first_set word from fits low some =
 
 -- ---- facts that say the same
 
+-- the first number at which one fact holds is the first of another that holds at the same numbers
 pub first_same : (E F : ℕ → Type 0) (low high : ℕ) (found : Option ℕ) → ((p : ℕ) → p < high → E p → F p) → ((p : ℕ) → p < high → F p → E p)
     → IsFirstIn E low high found → IsFirstIn F low high found
 first_same E F low high None to from none = λ p past below h. none p past below (from p below h)

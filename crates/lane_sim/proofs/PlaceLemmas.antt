@@ -1,5 +1,5 @@
 -- Places of points as lanes.
-use Rattle.std.proofs.Common.{◌≡◌, ℕ, zero, suc, ◌+◌, ◌-◌, ◌*◌, ◌/◌, ◌%◌, ◌^◌, ◌<◌, ◌≤◌, ◌==◌, eqb, nat_lt, Bool, true, false, not, ◌&&◌, refl, sym, ap, ap₂, ◌∙◌, subst, arith, lt-ltb, le-ltb, eq-eqb}
+use Rattle.std.proofs.Common.{◌≡◌, ℕ, zero, suc, ◌+◌, ◌-◌, ◌*◌, ◌/◌, ◌%◌, ◌^◌, ◌<◌, ◌≤◌, ◌==◌, eqb, nat_lt, Bool, true, not, ◌&&◌, refl, sym, ap, ap₂, ◌∙◌, subst, arith, lt-ltb, le-ltb, eq-eqb}
 use Rattle.std.proofs.Math.Nat.{div-div-eq-div-mul, mod-add-div, mod-lt}
 use Rattle.std.proofs.Math.Logic.{⊎_elim}
 use Rattle.std.proofs.lemmas.Nat.{div-mul-add, pow-add}
@@ -62,9 +62,6 @@ high_digit digit base k high whole few =
     (ap (λ (q : ℕ). eqb (q % 2) 1) (divided more base ∙ (ap (λ (b : ℕ). b / 2 ^ more) block ∙ sym (divided more (base + k)))))
 
 -- ---- the places below a limit
-
-pub none_below : (limit base k : ℕ) → limit ≤ base → nat_lt (base + k) limit ≡ false
-none_below limit base k past = le-ltb (base + k) limit (omega arith)
 
 pub all_are_below : (limit base k : ℕ) → base < limit → 64 ≤ limit - base → k < 64 → nat_lt (base + k) limit ≡ true
 all_are_below limit base k some far few = lt-ltb (base + k) limit (omega arith)

@@ -83,6 +83,7 @@ some_state : (b : Bool) (states : List (List Bool)) (q : ℕ) → q < (if b then
 some_state true states q listed = let first : q ≡ 0 = omega arith in subst (λ (n : ℕ). IsSome (empty_word n)) (sym first) refl
 some_state false states q listed = subst (λ (o : Option (List Bool)). IsSome o) (sym (slice_get-get_or states q [] listed)) refl
 
+-- each listed state has a word; without latches there is one state, number 0
 pub listed_has_word : (P : CodePlan) (q : ℕ) → q < (if P.latches == 0 then 1 else length P.states) → IsSome (word_of_state P q)
 listed_has_word P q listed = some_state (P.latches == 0) P.states q listed
 

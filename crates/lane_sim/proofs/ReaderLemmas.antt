@@ -33,7 +33,7 @@ next_on_chain list place from i at (here _ k inside is same) =
 next_on_chain list place from i at (later _ k inside is rest) =
     let e : k ≡ i = omega arith in inr (subst (λ n. IsOnChain list place (reader_at list n).next) e rest)
 
--- chains stay where a reader is added behind them
+-- chains stay where a reader is added after them
 pub still_on_chain : (list more : List Reader) (place from : ℕ) → IsOnChain list place from → IsOnChain (list ++ more) place from
 still_on_chain list more place from (here _ i inside is same) =
     here from i (omega (arith, length-append list more)) is

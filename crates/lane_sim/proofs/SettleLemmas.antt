@@ -85,7 +85,7 @@ module _ (first : ℕ) (rows : List (Option ℕ)) (reads : List ℕ) (f : StuckA
   some_passes (row ∷ table) sized =
       ap₂ ◌||◌ (row_passes row (sized 0 row (omega arith))) (some_passes table (λ k d inside. sized (suc k) d (omega arith)))
 
-  -- what the gate has is the truth of its cover, but for a held stem
+  -- what the gate has is the truth of its cover, except for a held stem
   gate_is : (cover : CoverTable) → All (λ row. length row ≡ length reads) cover.rows
       → gate_bit f driver words block p cover.on (map (terms_of first rows reads) cover.rows) ≡ on_stem f driver (truth cover read)
   gate_is cover sized = ap (on_stem f driver) (ap (same cover.on) (some_passes cover.rows sized) ∙ truth_as_same cover.on _)

@@ -19,7 +19,7 @@ module _ {X : Type 0} (all rest behind : List X) (x : X) (is : rest ≡ x ∷ be
   split : (d : X) → get_or all place d ∷ drop (suc place) all ≡ x ∷ behind
   split d = sym (drop-cons all place d within) ∙ walked ∙ is
 
-  -- it stands there, and what is behind it is left
+  -- it stands there, and what is after it is left
   pub taken : (d : X) → get_or all place d ≡ x
   taken d = ap (λ l. get_or l 0 d) (split d)
 

@@ -16,7 +16,7 @@ pub record AgreeUnder (C : Circuit) (f : StuckAt) (points : PointsState) (one ot
   pub settles : Settles C f (point_input points p) (point_state points p) valuation
   pub agree : bit valuation one ≡ bit valuation other
 
--- the lanes, sixteen words a net, have of the first nets of a list, so many of them, at each point what the net has under the fault
+-- the lanes, sixteen words per net, have of the first nets of a list, so many of them, at each point what the net has under the fault
 abbrev pub HaveLanesUnder : Circuit → StuckAt → PointsState → List ℕ → ℕ → List ℕ → Type 0
 HaveLanesUnder C f points shown many lanes =
     (place p : ℕ) (v : List Bool) → place < many → p < 1024 → Settles C f (point_input points p) (point_state points p) v

@@ -1,4 +1,4 @@
--- Lanes: bits, one a point, in words of 64.
+-- Lanes: bits, one for each point, in words of 64.
 use Rattle.std.specs.Prelude.{◌≡◌, ℕ, ◌*◌, ◌/◌, ◌%◌, ◌<◌, Bool, List, length, slice_index}
 use Rattle.tsc_bits.specs.Bits.{bit_worth}
 

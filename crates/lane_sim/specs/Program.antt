@@ -55,7 +55,7 @@ pub record IsTwo (first : ℕ) (rows : List (Option ℕ)) (n : NodeOf) (two : Tw
   pub second_operand : second_operand two ≡ operand_of first rows (slice_index_or n.reads 1 (slice_index n.reads 0))
   pub table : IsTableOf n.cover (length n.reads) (table_of two)
 
--- the gate of a node: each row of the cover has a literal a pin, and stands as its terms
+-- the gate of a node: each row of the cover has one literal per pin, and stands as its terms
 pub record IsMany (first : ℕ) (rows : List (Option ℕ)) (n : NodeOf) (flat : FlatRows) (many : ManyPins) : Type 0 where
   pub sized : All (λ row. length row ≡ length n.reads) n.cover.rows
   pub on : many.on ≡ n.cover.on

@@ -21,7 +21,7 @@ pub record IsTableOf (cover : CoverTable) (pins : ℕ) (table : ℕ) : Type 0 wh
   pub small : table < 16
   pub gives : (a b : Bool) → table_bit table a b ≡ truth cover (take pins (a ∷ b ∷ []))
 
--- the masks of a number: those of its four bits, and what a product of the two bits is added to, where it has their product: each
+-- the masks of a number: those of its four bits, and what a product of the two bits is added to, where it has their product. Each
 -- of these is negated in it where the sum has the other one too
 abbrev pub mask_bit : ℕ → ℕ → Bool
 mask_bit bit table = if nat_lt bit 4 then bit_worth bit table else differ (bit_worth 0 table) (bit_worth 1 table && bit_worth 2 table)

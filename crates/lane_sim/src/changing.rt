@@ -16,7 +16,7 @@ pub(crate) fn is_somewhere<const N: usize>(lanes: Simd<u64, N>) -> bool
 }
 
 /// Writes the lanes of a row, and says whether that changed them (false says that it didn't; what rests on true is time alone); the
-/// block has sixteen words a row.
+/// block has sixteen words per row.
 pub(crate) fn change(block: &mut [u64], row: usize, lanes: Simd<u64, 16>) -> bool
     requires room { row * 16 + 16 ≤ length block.old }
     ensures stored { (p : ℕ) → p < 1024 → source_bit block.new row p ≡ lane_bit lanes p }
@@ -30,7 +30,7 @@ pub(crate) fn change(block: &mut [u64], row: usize, lanes: Simd<u64, 16>) -> boo
 }
 
 /// Writes lanes of the row that starts at the word `start`, from the row's word `from` on, and says where that changed them; the
-/// block has sixteen words a row.
+/// block has sixteen words per row.
 pub(crate) fn change_part<const N: usize>(
     block: &mut [u64],
     start: usize,

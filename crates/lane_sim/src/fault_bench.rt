@@ -137,7 +137,7 @@ impl<'a> FaultBench<'a> {
         )
     }
 
-    /// Writes what some nets have at the points under a fault, or without one: sixteen words a net, one net behind another. It settles
+    /// Writes what some nets have at the points under a fault, or without one: sixteen words per net, one net after another. It settles
     /// again as `first_agreement` does, and takes no memory.
     pub fn write_lanes(&mut self, fault: Option<Fault>, shown: &[NetId], lanes: &mut [u64])
         requires settled { IsSome self.old.points }

@@ -8,7 +8,7 @@ use crate::gate::{ListRange, Term, TermList};
 use crate::kernel::span_of;
 use std::alloc::{AllocError, Global};
 
-/// Rows of terms, one behind another.
+/// Rows of terms, one after another.
 #[derive(Drop)]
 pub(crate) struct FlatRows {
     /// The terms of all rows.
@@ -40,7 +40,7 @@ impl FlatRows {
         Ok(FlatRows { terms, rows, gates })
     }
 
-    /// Adds a gate's rows behind the others, and answers its place.
+    /// Adds a gate's rows after the others, and answers its place.
     ///
     /// # Errors
     ///
@@ -75,7 +75,7 @@ impl FlatRows {
     }
 }
 
-/// Adds rows of terms behind the others.
+/// Adds rows of terms after the others.
 fn append_rows(
     terms: &mut Vec<Term>,
     rows: &mut Vec<ListRange>,
@@ -91,7 +91,7 @@ fn append_rows(
     Ok(())
 }
 
-/// Adds a row of terms behind the others.
+/// Adds a row of terms after the others.
 fn append_row(
     terms: &mut Vec<Term>,
     rows: &mut Vec<ListRange>,

@@ -89,6 +89,6 @@ pub(crate) type TermList = Items<Term>;
 pub(crate) struct ListRange {
     /// The place of the first one.
     pub start: usize,
-    /// The place behind the last one.
+    /// The place after the last one.
     pub end: usize,
 }

@@ -1,4 +1,4 @@
-//! Lanes: bits, one a point, in values of so many words. All the 1,024 points of a bench take sixteen words.
+//! Lanes: bits, one for each point, in values of so many words. All the 1,024 points of a bench take sixteen words.
 ghost use Rattle.std.specs.Prelude.{◌≡◌, ◌≢◌, ℕ, ◌+◌, ◌*◌, ◌/◌, ◌%◌, ◌<◌, ◌≤◌, ◌&&◌, ◌||◌, length};
 ghost use Rattle.tsc_bits.specs.Bits.{bit_worth, same};
 ghost use Rattle.lane_sim.specs.Lanes.{HasLanes, lane_bit};
@@ -49,7 +49,7 @@ pub fn signed<const N: usize>(wants: bool, a: Simd<u64, N>) -> Simd<u64, N>
     a ^ Simd::splat(word_of(!wants))
 }
 
-/// The first lanes of a net in a list that has sixteen words a net: those of an input or a latch output by its net, or of a row.
+/// The first lanes of a net in a list that has sixteen words per net: those of an input or a latch output by its net, or of a row.
 pub fn load<const N: usize>(words: &[u64], net: usize) -> Simd<u64, N>
     requires few { N ≤ 16 }
     requires room { net * 16 + 16 ≤ length words.now }
@@ -58,7 +58,7 @@ pub fn load<const N: usize>(words: &[u64], net: usize) -> Simd<u64, N>
     Simd::from_slice(&words[net * 16..])
 }
 
-/// Writes the first lanes of a row; the block has sixteen words a row.
+/// Writes the first lanes of a row; the block has sixteen words per row.
 pub(crate) fn store<const N: usize>(block: &mut [u64], row: usize, lanes: Simd<u64, N>)
     requires few { N ≤ 16 }
     requires room { row * 16 + 16 ≤ length block.old }
@@ -69,7 +69,7 @@ pub(crate) fn store<const N: usize>(block: &mut [u64], row: usize, lanes: Simd<u
     lanes.copy_to_slice(&mut block[row * 16..]);
 }
 
-/// Lanes of the net whose words start at `start`, from its word `from` on, in a list that has sixteen words a net.
+/// Lanes of the net whose words start at `start`, from its word `from` on, in a list that has sixteen words per net.
 pub(crate) fn load_part<const N: usize>(words: &[u64], start: usize, from: usize) -> Simd<u64, N>
     requires few { from + N ≤ 16 }
     requires start { start % 16 ≡ 0 }
@@ -79,7 +79,7 @@ pub(crate) fn load_part<const N: usize>(words: &[u64], start: usize, from: usize
     Simd::from_slice(&words[start + from..])
 }
 
-/// Writes lanes of the row that starts at the word `start`, from the row's word `from` on; the block has sixteen words a row.
+/// Writes lanes of the row that starts at the word `start`, from the row's word `from` on; the block has sixteen words per row.
 pub(crate) fn store_part<const N: usize>(
     block: &mut [u64],
     start: usize,

@@ -2,7 +2,7 @@
 //! Its main types are `Bench`, which settles at `Points` and then shows the lanes of the watched nets, and `FaultBench`, which tries faults and shows lanes under them.
 //! It stands on `tsc_net` (netlists and faults), `tsc_cover`, `lane_rows` (which row a net has) and `tsc_pool` (the rows).
 //! Its main promise: each bit of a watched lane is that of the one valuation that settles at its point, and no settle takes memory.
-//! Its definitions are in `specs/`: Lanes (bits in words), Points, Places (points in order: a listed state and an input each), Bench (what a settled one shows), FaultBench (where two nets agree, lanes under a fault) and First.
+//! Its definitions are in `specs/`: Lanes (bits in words), Points, Places (points in order, each a listed state and an input), Bench (what a settled one shows), FaultBench (where two nets agree, lanes under a fault) and First.
 #![tactic(auto)]
 
 mod again;

@@ -9,7 +9,7 @@ use std::alloc::{AllocError, Global};
 use std::simd::Simd;
 use tsc_cover::bit_at;
 
-/// The masks of all sixteen functions of two bits, one behind another: two words for each of five bits, so that a register takes
+/// The masks of all sixteen functions of two bits, one after another: two words for each of five bits, so that a register takes
 /// them as they stand. Four are those of the function's number; the last one is what a product of the two bits is added to.
 ///
 /// # Errors
@@ -83,10 +83,10 @@ pub(crate) const PRODUCT: usize = 2;
 /// The formula that serves for every function.
 pub(crate) const ANY: usize = 3;
 
-/// The masks of the functions with the product start at this place or behind it.
+/// The masks of the functions with the product start at this place or after it.
 pub(crate) const PRODUCTS: u8 = 80;
 
-/// Those of the exclusive or and of its negation start at this place or behind it, before `PRODUCTS`; those of the other sums before
+/// Those of the exclusive or and of its negation start at this place or after it, before `PRODUCTS`; those of the other sums before
 /// both.
 pub(crate) const DIFFERENCES: u8 = 60;
 

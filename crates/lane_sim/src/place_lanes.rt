@@ -1,4 +1,4 @@
-//! Places of points as lanes: which of 64 places, one behind another, have a bit, or are those of a state.
+//! Places of points as lanes: which of 64 places, one after another, have a bit, or are those of a state.
 ghost use Rattle.std.specs.Prelude.{◌≡◌, ◌+◌, ◌/◌, ◌%◌, ◌<◌, ◌≤◌, ◌^◌, ◌==◌, nat_lt};
 ghost use Rattle.tsc_bits.specs.Bits.{bit_worth};
 ghost use Rattle.lane_sim.specs.Lanes.{HasBits};

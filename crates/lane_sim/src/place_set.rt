@@ -10,7 +10,7 @@ use std::alloc::{AllocError, Global};
 /// Places that are marked.
 #[derive(Drop)]
 pub(crate) struct PlaceSet {
-    /// A bit a place.
+    /// One bit for each place.
     pub words: Vec<u64>,
 }
 

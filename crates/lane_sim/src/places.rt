@@ -1,4 +1,4 @@
-//! Puts the points at places, one behind another: a listed state of a plan and an input each.
+//! Puts the points at places, one after another. Each point is a listed state of a plan and an input.
 ghost use Rattle.std.specs.Prelude.{◌≡◌, ℕ, ◌+◌, ◌*◌, ◌%◌, ◌<◌, ◌≤◌, ◌^◌, IsSome};
 ghost use Rattle.fault_secure.specs.Exposing.{word_of_state};
 ghost use Rattle.lane_sim.specs.Points.{KeepsOtherBlocks, point_input, point_state};
@@ -9,7 +9,7 @@ use crate::points::Points;
 use crate::state_lanes::state_lanes;
 use tsc_net::Plan;
 
-/// Puts the points at the places from `first` on and below `past`, in order. What is at the points behind them is left open. It takes
+/// Puts the points at the places from `first` on and below `past`, in order. What is at the points after them is left open. It takes
 /// no memory.
 pub fn put_places(points: &mut Points, plan: &Plan, first: usize, past: usize)
     requires plan { plan.now.latches ≡ points.old.latches }
@@ -28,7 +28,7 @@ pub fn put_places(points: &mut Points, plan: &Plan, first: usize, past: usize)
     put_states(points, plan, first, past);
 }
 
-/// Puts the inputs of the points at the places from `first` on and below `past`, in order. Which inputs are at the points behind them is
+/// Puts the inputs of the points at the places from `first` on and below `past`, in order. Which inputs are at the points after them is
 /// left open. It takes no memory.
 pub fn put_inputs(points: &mut Points, first: usize, past: usize)
     requires few { points.old.inputs ≤ 64 }

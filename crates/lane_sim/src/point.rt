@@ -1,4 +1,4 @@
-//! Points: a listed state and an input each.
+//! Points: each is a listed state and an input.
 ghost use Rattle.std.specs.Prelude.{◌≡◌, ◌≤◌};
 ghost use Rattle.lane_sim.specs.Places.{point_at};
 

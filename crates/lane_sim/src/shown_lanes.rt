@@ -1,4 +1,4 @@
-//! What nets have under a fault, written net behind net.
+//! What nets have under a fault, written net after net.
 ghost use Rattle.std.specs.Prelude.{◌≡◌, ◌*◌, ◌<◌, length, All};
 ghost use Rattle.fault_secure.specs.Circuit.{nets};
 ghost use Rattle.tsc_net.specs.Fault.{stuck_at_or_none};

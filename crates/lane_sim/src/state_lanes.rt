@@ -1,4 +1,4 @@
-//! Lanes of the latches at 64 places, one behind another: the bits of the words of the places' states.
+//! Lanes of the latches at 64 places, one after another: the bits of the words of the places' states.
 ghost use Rattle.std.specs.Prelude.{◌≡◌, ℕ, ◌+◌, ◌-◌, ◌*◌, ◌/◌, ◌<◌, ◌≤◌, ◌^◌, ◌&&◌, ◌||◌, List, Bool, Some, IsSome, slice_index};
 ghost use Rattle.tsc_bits.specs.Bits.{bit_worth, bits_of};
 ghost use Rattle.fault_secure.specs.Circuit.{bit};

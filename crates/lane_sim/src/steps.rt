@@ -85,7 +85,7 @@ impl Steps {
 /// So many steps are foreseen in any case: a processor learns their order from one settle to the next.
 const FORESEEN: usize = 4096;
 
-/// The formula of a gate of two pins; behind a wide gate the one before it stays.
+/// The formula of a gate of two pins; after a wide gate the one before it stays.
 fn formula_after(last: usize, step: &Step) -> usize {
     match step.operation {
         Operation::Two {

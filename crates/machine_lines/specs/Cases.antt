@@ -46,7 +46,7 @@ IsCaseOf G case = IsLine G case.decoded × IsLine G case.line
 abbrev pub AreCases : GateNetwork → List Case → Type 0
 AreCases G cases = All (IsCaseOf G) cases
 
--- the rows of the first so many states, where a row of every state counts once a state
+-- the rows of the first so many states, where a row of every state counts once per state
 abbrev pub rows_before : StateTable → ℕ → ℕ
 rows_before M states = sum_by (λ q. length (rows_at M q)) (take states (range_with_len 0 M.states))
 
@@ -54,8 +54,8 @@ rows_before M states = sum_by (λ q. length (rows_at M q)) (take states (range_w
 abbrev pub choices_before : Widths → List Case → ℕ → ℕ
 choices_before W cases places = sum_by (λ place. 2 * count_by (has_one W place) cases) (take places (range_with_len 0 (W.outputs + W.checks + W.bits)))
 
--- cases were added of a state with this line: they have these lines and answer with these words, so that some of them stands
--- with a 1 where the state's line is 1 and so is the line of a word with a 1; there are as many as words
+-- cases of a state with this line were added: they have these lines and answer with these words, so that some of them stands
+-- with a 1 where the state's line is 1 and so is the line of a word with a 1. There are as many as words
 pub record AddsCases (W : Widths) (old new : List Case) (decoded : Line) (lines : List Line) (words : List (List Bool)) : Type 0 where
   pub within : (G : GateNetwork) → AreCases G old → IsLine G decoded → AreLines G lines → AreCases G new
   pub value : (G : GateNetwork) (x s : ℕ → Bool) (place : ℕ) → some_case W G x s place new
@@ -64,7 +64,7 @@ pub record AddsCases (W : Widths) (old new : List Case) (decoded : Line) (lines 
   pub ones : (place : ℕ) → count_by (has_one W place) new ≤ count_by (has_one W place) old + length words
 
 -- the gates grew by the lines of a state's rows, and its cases were added: some of them stands with a 1 at a place where the
--- state's line is 1 and the state's answer has a 1 there; there are as many as rows, and one more, which has no output that is 1
+-- state's line is 1 and the state's answer has a 1 there. There are as many as rows, and one more, which has no output that is 1
 pub record AddsState (code : Code) (W : Widths) (words : List ℕ) (M : StateTable) (q : ℕ) (decoded : Line) (a b : GateNetwork) (old new : List Case) : Type 0 where
   pub within : AreCases b new
   pub value : (x : List Bool) (s : ℕ → Bool) (place : ℕ) → some_case W b (bit x) s place new

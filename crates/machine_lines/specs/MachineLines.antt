@@ -1,4 +1,4 @@
--- What the lines of a machine's gates are 1 for: its outputs, behind them their checks, and the next state's word.
+-- What the lines of a machine's gates are 1 for: its outputs, after them their checks, and then the next state's word.
 use Rattle.std.specs.Prelude.{◌≡◌, ℕ, ◌+◌, ◌<◌, Bool, List, ◌++◌, map, length, slice_index_or, All}
 use Rattle.std.specs.List.{range_with_len}
 use Rattle.tsc_bits.specs.Bits.{bits_of}

@@ -4,7 +4,7 @@ use Rattle.std.specs.List.{range_with_len, sum_by}
 use Rattle.fault_secure.specs.Logic.{StateTable}
 use Rattle.state_code.specs.Lines.{rows_at}
 
--- the rows of a table, where a row of every state counts once a state
+-- the rows of a table, where a row of every state counts once per state
 abbrev pub row_count : StateTable → ℕ
 row_count M = sum_by (λ q. length (rows_at M q)) (range_with_len 0 M.states)
 

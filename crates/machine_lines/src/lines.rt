@@ -15,7 +15,7 @@ use state_code::{StateCode, decode};
 use std::alloc::{AllocError, Global};
 use tsc_net::{Code, Machine};
 
-/// Gates, and the lines of a machine's word: its outputs, behind them the checks, and the bits of the next state.
+/// Gates, and the lines of a machine's word: its outputs, after them the checks, and then the bits of the next state.
 #[derive(Drop)]
 pub struct MachineLines {
     /// The gates, which negate only inputs.

@@ -140,6 +140,7 @@ rows_text (row ∷ rows) each =
 pub text_is : (rows : List DrawnRow) → Each IsRowOf rows → text_of (made_lines rows) ≡ text_of_rows rows
 text_is rows each = ap (λ l. codes ".i 7" ++ (10 ∷ (codes ".o 8" ++ (10 ∷ l)))) (rows_text rows each)
 
+-- the lines of the made text are those made of the rows of the number, numbered from 1
 pub read_lines : (number : ℕ) → lines_of (made_text number) ≡ numbered 1 (made_lines (rows_of_number number))
 read_lines number =
     let rows = rows_of_number number in

@@ -272,6 +272,7 @@ made_machine number =
     ∙ (ap (λ (lines : List TextLine). slice_range lines 0 (length (machine rows))) (made_are number)
     ∙ whole_slice (machine rows) (last more ∷ []))
 
+-- nothing refuses the made text as a machine, and it has the stated inputs, outputs, rows and states
 pub made_is : (number : ℕ) → IsMade (made_text number)
 made_is number =
     let rows = rows_of_number number in

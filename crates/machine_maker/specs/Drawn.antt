@@ -1,4 +1,4 @@
--- What is drawn of a machine, in order: a generator goes in, what was drawn and the generator behind it come out.
+-- What is drawn of a machine, in order: a generator goes in, what was drawn and the generator after it come out.
 use Rattle.std.specs.Prelude.{ℕ, zero, suc, ◌/◌, ◌%◌, ◌==◌, if◌then◌else◌, List, [], ◌∷◌, ◌++◌}
 use Rattle.rand_pcg.specs.Lcg.{Lcg, increment_of, started}
 use Rattle.rand_pcg.specs.Pcg.{multiplier_64, pcg32}

@@ -11,7 +11,7 @@ row_words row = (number_digits row.number ++ row.asked) ∷ state_name row.state
 abbrev pub written_row : DrawnRow → WrittenLine
 written_row row = line_of_words (row_words row)
 
--- the lines before the rows, and the one behind them
+-- the lines before the rows, and the one after them
 abbrev pub inputs_line : WrittenLine
 inputs_line = line_of_words (codes ".i" ∷ codes "7" ∷ [])
 

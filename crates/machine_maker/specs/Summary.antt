@@ -3,7 +3,7 @@ use Rattle.std.specs.Prelude.{ℕ, List, [], ◌∷◌, ◌++◌, codes}
 use Rattle.std.specs.Fmt.{decimal}
 use Rattle.machine_maker.specs.declared.summary.Figures.{Figures}
 
--- a word and a number, each behind a blank
+-- a word and a number, each after a blank
 abbrev pub figure : List ℕ → ℕ → List ℕ
 figure word number = 32 ∷ (word ++ (32 ∷ decimal number))
 

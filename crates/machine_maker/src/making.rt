@@ -63,7 +63,7 @@ fn push_digits(text: &mut Bytes, number: usize) -> Result<(), AllocError>
     text.push(b'0' + (number % 2) as u8)
 }
 
-/// Appends the name of a state behind a blank.
+/// Appends the name of a state after a blank.
 fn push_state(text: &mut Bytes, state: u64) -> Result<(), AllocError>
     ensures name { OnOk result (text.new ≡ text.old ++ (32 ∷ state_name state)) }
 {

@@ -102,7 +102,7 @@ fn push_counts_line(out: &mut Bytes, figures: &Figures) -> Result<(), AllocError
     out.append(b"\n")
 }
 
-/// Appends a word and a number, each behind a blank.
+/// Appends a word and a number, each after a blank.
 fn push_figure(out: &mut Bytes, word: &[u8], number: u64) -> Result<(), AllocError>
     ensures figure { OnOk result (out.new ≡ out.old ++ figure word.now number) }
 {

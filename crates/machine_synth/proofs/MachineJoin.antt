@@ -39,6 +39,7 @@ module _ (M : StateTable) (P : CodePlan) (plan : IsMachinePlan M P) where
   pub word_count : length (words_of M P) ≡ M.states
   word_count = sym (length-map (words_of M P) (bits_of P.latches)) ∙ words_fit.count
 
+  -- the plan has as many state words as the machine has states
   pub state_count : length P.states ≡ M.states
   state_count = ap length plan.states ∙ words_fit.count
 

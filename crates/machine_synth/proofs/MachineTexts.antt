@@ -17,7 +17,7 @@ use Rattle.unate_synth.proofs.FreshParts.{fresh_names_behind, fresh_named}
 use Rattle.machine_synth.specs.MachineParts.{latch_at, shown_parts, machine_parts, fresh_at}
 
 module _ (inputs outputs : List (List ℕ)) where
-  -- so many fresh names behind those of inputs and outputs
+  -- so many fresh names after those of inputs and outputs
   named_parts : (fresh : ℕ) → (iterate with_fresh fresh (shown_parts inputs outputs)).names ≡ (inputs ++ outputs) ++ map (fresh_at inputs outputs) (range_with_len 0 fresh)
   named_parts zero = sym (append-nil (inputs ++ outputs))
   named_parts (suc fresh) =
@@ -74,7 +74,7 @@ module _ (inputs outputs : List (List ℕ)) where
     pub latches_counted : length p.named.latches ≡ count
     latches_counted = ap length parts_latches ∙ length-map-range_with_len (latch_at p.names (length inputs + length outputs) count word) 0 count
 
-    -- the text of the name with a number behind inputs and outputs
+    -- the text of the name with a number after inputs and outputs
     pub fresh_there : (k : ℕ) → k < fresh → text_at p.names (length inputs + length outputs + k) ≡ fresh_at inputs outputs k
     fresh_there k low =
         ap₂ text_at parts_names (let e : length inputs + length outputs + k ≡ length (inputs ++ outputs) + k = omega (arith, length-append inputs outputs) in e)

@@ -26,7 +26,7 @@ use Rattle.machine_synth.proofs.MachineTexts.{names_counted, parts_latches}
 abbrev pub AreDistinct : List ℕ → Type 0
 AreDistinct list = (a b : ℕ) → a < length list → b < length list → slice_index list a ≡ slice_index list b → a ≡ b
 
--- lists whose numbers are told apart, one behind the other
+-- lists whose numbers are told apart, one after the other
 pub distinct_append : (P Q : ℕ → Type 0) (xs ys : List ℕ) → AreDistinct xs → AreDistinct ys → All P xs → All Q ys → ((n : ℕ) → P n → Q n → ⊥) → AreDistinct (xs ++ ys)
 distinct_append P Q xs ys front back all_front all_back apart a b low lower same = by (cases_lt a (length xs)) (cases_lt b (length xs))
   where
@@ -88,7 +88,7 @@ check_names inputs outputs n count = map numbered (range_with_len (length inputs
 abbrev pub read_names : List (List ℕ) → List (List ℕ) → ℕ → List Name
 read_names inputs outputs n = map numbered (range_with_len (length inputs + length outputs + n) n)
 
--- the names of a machine's word: those of its outputs, and behind them those of its checks and of what its latches read
+-- the names of a machine's word: those of its outputs, and after them those of its checks and of what its latches read
 pub record IsNumberedWord (inputs outputs : List (List ℕ)) (n count : ℕ) (shown behind : List Name) : Type 0 where
   pub shown_are : shown ≡ map numbered (range_with_len (length inputs) (length outputs))
   pub joined : behind ≡ check_names inputs outputs n count ++ read_names inputs outputs n

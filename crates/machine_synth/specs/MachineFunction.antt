@@ -17,7 +17,7 @@ abbrev pub words_of : StateTable → CodePlan → List ℕ
 words_of M P = state_words P.latches P.weight M.states
 
 -- the plan has version 2, an unordered code, the machine's number of outputs and as many checks as the code has for them, no
--- groups, and for each state its word: of the least even length for which there are enough words with half their bits 1
+-- groups, and for each state its word. The words are of the least even length for which there are enough words with half their bits 1
 pub record IsMachinePlan (M : StateTable) (P : CodePlan) : Type 0 where
   pub version : P.version ≡ 2
   pub code : IsUnorderedCode P.code

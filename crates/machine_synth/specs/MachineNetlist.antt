@@ -31,7 +31,7 @@ fresh_nets N P = ((latch_nets N ++ next_nets N) ++ P.checks) ++ (P.rail1 ∷ (P.
 abbrev pub first_fresh_texts : ℕ → ℕ → List (List ℕ)
 first_fresh_texts number count = map (fresh_text number) (range_with_len 0 count)
 
--- the outputs have these names, and behind them stand the rails; fresh names have this number
+-- the outputs have these names, and after them stand the rails; fresh names have this number
 pub record HasMachineNames (texts : List (List ℕ)) (number : ℕ) (N : NetlistOf) (P : CodePlan) : Type 0 where
   pub outputs : names_of N.names (take P.outputs N.circuit.outputs) ≡ texts
   pub rails : N.circuit.outputs ≡ take P.outputs N.circuit.outputs ++ (P.rail1 ∷ (P.rail2 ∷ []))

@@ -9,7 +9,7 @@ use Rattle.tsc_net.specs.Parts.{PartsOf, with_fresh, fresh_text, free_number}
 use Rattle.state_code.specs.Words.{IsLeastWeight, state_words}
 use Rattle.state_code.specs.declared.words.StateCode.{StateCode}
 
--- the parts with some names more
+-- the parts with some more names
 abbrev pub with_names : PartsOf → List (List ℕ) → PartsOf
 with_names p texts = record p { names = p.names ++ texts }
 
@@ -17,8 +17,8 @@ with_names p texts = record p { names = p.names ++ texts }
 abbrev pub with_inputs : PartsOf → ℕ → PartsOf
 with_inputs p count = let N = p.named in record p { named = record N { inputs = take count p.names } }
 
--- the latch at a place of so many, over names of which those from number `first` on are what the latches give and as many behind
--- them what they read; it holds its bit of the word, whose most significant one is the first latch's
+-- the latch at a place of so many, over names of which those from number `first` on are what the latches give and as many after
+-- them what they read. It holds its bit of the word, whose most significant one is the first latch's
 abbrev pub latch_at : List (List ℕ) → ℕ → ℕ → ℕ → ℕ → NamedLatch
 latch_at names first count word place = record { reads = text_at names (first + count + place); out = text_at names (first + place); init = bit_worth (count - 1 - place) word }
 
@@ -40,7 +40,7 @@ machine_parts inputs outputs count word fresh = with_latches (iterate with_fresh
 abbrev pub fresh_at : List (List ℕ) → List (List ℕ) → ℕ → List ℕ
 fresh_at inputs outputs count = fresh_text (free_number (inputs ++ outputs)) count
 
--- the names of the places behind the outputs: the fresh ones behind those of the latches for the checks, and what the latches read
+-- the names of the places after the outputs: the fresh ones after those of the latches for the checks, and what the latches read
 abbrev pub hidden_texts : List (List ℕ) → List (List ℕ) → ℕ → ℕ → List (List ℕ)
 hidden_texts inputs outputs latches checks =
     map (fresh_at inputs outputs) (range_with_len (2 * latches) checks) ++ map (fresh_at inputs outputs) (range_with_len latches latches)

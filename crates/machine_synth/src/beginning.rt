@@ -73,7 +73,7 @@ fn add_inputs(parts: &mut Parts, count: usize) -> Result<(), AllocError>
     Ok(())
 }
 
-/// Adds latches: they give names from number `first` on, and read as many behind these.
+/// Adds latches: they give names from number `first` on, and read as many after these.
 fn add_latches(parts: &mut Parts, first: usize, latches: Latches) -> Result<(), AllocError>
     requires few { latches.count ≤ 64 }
     requires names { first + 2 * latches.count ≤ length parts.old.names }

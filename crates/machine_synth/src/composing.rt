@@ -22,7 +22,7 @@ use tsc_net::{Name, NameList, NameTexts, Netlist, Parts};
 use unate_synth::{SourceNames, compose};
 
 /// The netlist of a machine whose inputs and outputs have these names: the gates of its word, which is outputs, so many checks and
-/// what the latches read, and behind them those of a checker.
+/// what the latches read, and after them those of a checker.
 pub fn machine_net(
     alloc: Global,
     inputs: &NameTexts,

@@ -32,7 +32,7 @@ use unate_synth::unordered_checker;
 /// A netlist for a machine of at most 924 states under a Berger or an m-out-of-n code. The machine is one whose bound on covers is
 /// kept. The inputs and outputs have the names that are given, which are different; `key` is the key of the text that they come
 /// from. The latch outputs, the nets at the latch inputs, the checks, the rails and then the inner nets have fresh names, in this
-/// order. Each place of the monitored word has a node of its own, and no node reads more than two nets. Nothing stands in it but
+/// order. Each place of the monitored word has a node of its own, and no node reads more than two nets. Nothing stands in it except
 /// gates that the word needs, and the checker; of the inner gates no two are equal. There are at most as many nodes as the bound
 /// on covers says.
 ///
@@ -166,7 +166,7 @@ fn planned(
     Ok(PlannedNetlist { net, plan })
 }
 
-/// The plan of a machine's netlist, whose checks have the fresh names of this number behind those of the latches, so many of them, and
+/// The plan of a machine's netlist, whose checks have the fresh names of this number after those of the latches, so many of them, and
 /// whose rails are the last outputs.
 fn plan_of(
     alloc: Global,

@@ -111,6 +111,7 @@ module _ (text : List ℕ) (is : IsMade text) where
       let read : machine_refusal (refusal (machine_lines (lines_of text))) ≡ None = ap machine_refusal is.lines in
       ap (λ r. first_of r (behind_machine (lines_of text))) read ∙ whole
 
+  -- nothing refuses a made text as `make` reads it: neither its bytes, its lines, the limits of a machine nor those of an audit
   pub never_refused : make_refusal text ≡ None
   never_refused =
       let M = machine_in text in
@@ -131,6 +132,7 @@ module _ (text : List ℕ) (is : IsMade text) where
 some_latches : (latches states : ℕ) → 0 < latches → (if latches == 0 then 1 else states) ≡ states
 some_latches latches states some = ap (λ b. if b then 1 else states) (ne_eqb latches 0 (λ e. omega arith))
 
+-- the netlist of a machine has as many inputs, outputs and states as the machine
 pub machine_fits : (M : StateTable) (inputs outputs : List (List ℕ)) (N : NetlistOf) (P : CodePlan) → IsMachineNetlist M inputs outputs N P
     → FitsSource (States M) N.circuit P
 machine_fits M inputs outputs N P is =
@@ -150,6 +152,7 @@ checks_are M inputs outputs N P is code some most =
     check_is P.code P.outputs (length P.checks) (let e = is.plan.outputs in omega (arith, e, some)) (let e = is.plan.outputs in omega (arith, e, most)) is.plan.width in
     sym count ∙ ap₂ check_count code is.plan.outputs
 
+-- the netlist of a machine of at most 924 states has twice as many latches as the weight of its state words
 pub latches_are : (M : StateTable) (inputs outputs : List (List ℕ)) (N : NetlistOf) (P : CodePlan) → IsMachineNetlist M inputs outputs N P
     → M.states ≤ 924 → P.latches ≡ length N.circuit.latches → length N.circuit.latches ≡ 2 * state_weight M.states
 latches_are M inputs outputs N P is few same =
@@ -181,6 +184,7 @@ kept_states M none = by (has_too_many_states M) refl none
     by true e f = cc
     by false e f = ltb-false 924 M.states e
 
+-- a machine that is not refused for its points has at most 1,048,576 of them
 pub kept_points : (M : StateTable) → audit_points_refusal (has_too_many_audit_points (States M)) ≡ None → audit_points (States M) ≤ 1048576
 kept_points M none = by (has_too_many_audit_points (States M)) refl none
   where

@@ -84,6 +84,7 @@ few_drivers N inputs latches nodes =
       length-map N.nodes (λ (n : NamedNode). n.out),
     )
 
+-- the netlist of lines that nothing refuses is a built one
 pub section_is_built : (kind : Kind) (lines : List TextLine) → refusal kind lines ≡ None → IsBuilt (netlist_of (named_text lines))
 section_is_built kind lines e =
     let N = named_text lines in

@@ -22,6 +22,7 @@ mapped_plans_are_secure M head lines N G first second names reads planned allowe
 same_plan : (P Q : CodePlan) → Some P ≡ Some Q → P ≡ Q
 same_plan P Q e = cc
 
+-- where N is secure against one failing cell, G that reads as N mapped is secure with the put plan lines, in all senses
 pub put_plan_lines_are_secure : PutPlanLinesAreSecure
 put_plan_lines_are_secure M kind lines others P Q put reads planned stated secure =
     let N = section_net lines in

@@ -51,6 +51,7 @@ module _ (text : List ℕ) (allowed : mapped_refusal text ≡ None) where
   lines_allowed : mapped_lines_refusal lines ≡ None
   lines_allowed = none_later (byte_refusal (bad_line text)) (mapped_lines_refusal lines) allowed
 
+  -- nothing refuses the first netlist of a text that `audit mapped` doesn't refuse
   pub first_is_allowed : refusal Netlist (first_lines lines) ≡ None
   first_is_allowed = first_allowed Netlist lines 0
       (none_first (first_refusal Netlist lines) (behind_refusal Unplanned lines (first_section lines).next) lines_allowed)
@@ -103,6 +104,7 @@ module _ (N G : NetlistOf) (first : IsBuilt N) (second : IsBuilt G) where
       yes_or_wide wide.0 (one_answer N G Yes (Wide wide.0) first second (accepted.mapping.names, accepted.mapping.reads) wide.1)
   no_limit Rejected answer rejected wide = no_or_wide rejected.reason wide.0 (one_answer N G (No rejected.reason) (Wide wide.0) first second rejected.first wide.1)
 
+-- a text that `audit mapped` doesn't refuse has at most one reply, and none where a cover is too wide
 pub mapped_replies_are_determined : MappedRepliesAreDetermined
 mapped_replies_are_determined text allowed =
     let N = netlist_in text in

@@ -120,5 +120,6 @@ module _ (N : NetlistOf) (built : IsBuilt N) where
     reads = found_blocks_read C C moved places places (names_move N N built built own_names) found (λ h. h) well (λ j h. inl (very_node j h));
   }
 
+-- each built netlist is mapped to itself
 pub netlists_are_mapped_to_themselves : NetlistsAreMappedToThemselves
 netlists_are_mapped_to_themselves N built = (own_names N built, own_reading N built)

@@ -39,6 +39,7 @@ no_fault_behind back (line ∷ lines) e =
     ap (λ cause. fault_or cause line (first_fault_behind Unplanned (line ∷ back) lines)) (no_fault_here (seen_of back) (kind_of line) line both.0)
     ∙ no_fault_behind (line ∷ back) lines both.1
 
+-- a section that nothing refuses with its plan is refused by nothing where its plan lines are passed over
 pub plan_lines_may_be_passed_over : PlanLinesMayBePassedOver
 plan_lines_may_be_passed_over lines e =
     ap (λ fault. first_refusal (first_refusal (refusal_of_line fault) (refusal_of_net (net_fault (named_text lines)))) None)

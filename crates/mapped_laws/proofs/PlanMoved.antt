@@ -288,6 +288,7 @@ pub record IsAllowed (lines : List TextLine) (N : NetlistOf) : Type 0 where
   pub known : first_unknown N.names lines ≡ None
   pub right : is_right (code_in head) lines N ≡ true
 
+-- plan lines that their code line doesn't refuse are allowed in this sense
 pub is_allowed : (lines : List TextLine) (N : NetlistOf) → head_refusal (code_line lines) lines N ≡ None → IsAllowed lines N
 is_allowed lines N e = by (code_line lines) refl e
   where

@@ -123,6 +123,7 @@ plan_refusals_are_in_plan_lines lines others net e allowed =
     stays_allowed net lines others e plan.head plan.is plan.right (same_known net lines others e plan.known) (code_line others)
     (head_words others ∙ ap first_words (sym e) ∙ sym (head_words lines) ∙ ap words_of plan.is)
 
+-- nothing refuses plan lines that are put into a mapped netlist's section
 pub put_plan_lines_are_allowed : PutPlanLinesAreAllowed
 put_plan_lines_are_allowed kind lines others put =
     let both = both_allowed (netlist_refusal Netlist lines) (refusal_of_plan Netlist lines) put.allowed in

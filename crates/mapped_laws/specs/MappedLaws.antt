@@ -45,8 +45,8 @@ PlansMoveByName = (head : TextLine) (lines : List TextLine) (N G : NetlistOf) �
     → plan_refusal lines N ≡ None
     → plan_with head lines G ≡ moved_plan (at_of G.circuit (moved_by_name N G)) (plan_with head lines N)
 
--- so where G reads as N mapped, by the blocks that are found, and N with the plan that the lines state is secure against any one failing
--- cell, G with the plan that they state is secure against any gates of one block that fail at once, any one cell and each listed fault
+-- so let G read as N mapped, by the blocks that are found, and N with the plan that the lines state be secure against any one failing
+-- cell. Then G with the plan that they state is secure against any gates of one block that fail at once, any one cell and each listed fault
 abbrev pub MappedPlansAreSecure : Type 0
 MappedPlansAreSecure = (M : Logic) (head : TextLine) (lines : List TextLine) (N G : NetlistOf) → IsBuilt N → IsBuilt G → HasSameNames N G
     → (reads : IsReadSo N.circuit G.circuit (moved_by_name N G)) → ArePlanned lines → plan_refusal lines N ≡ None
@@ -85,8 +85,8 @@ PutPlanLinesMove = (kind : Kind) (lines others : List TextLine) (P : CodePlan) �
     → plan_text Netlist lines (section_net lines) ≡ Some P
     → plan_text Netlist others (section_net others) ≡ Some (moved_plan (at_of (section_net others).circuit (moved_by_name (section_net lines) (section_net others))) P)
 
--- and where the netlist there reads as the first one mapped, by the blocks that are found, and this one with its plan is secure against
--- any one failing cell, that one is secure with the plan that it now states, against any gates of one block that fail at once, any one
+-- and let the netlist there read as the first one mapped, by the blocks that are found, and this one with its plan be secure against
+-- any one failing cell. Then that one is secure with the plan that it now states, against any gates of one block that fail at once, any one
 -- cell and each listed fault
 abbrev pub PutPlanLinesAreSecure : Type 0
 PutPlanLinesAreSecure = (M : Logic) (kind : Kind) (lines others : List TextLine) (P Q : CodePlan) → ArePutInto kind lines others

@@ -30,9 +30,9 @@ mapped_section text = lines_from (lines_of text) (first_section (lines_of text))
 abbrev pub mapped_plan : List ℕ → CodePlan
 mapped_plan text = plan_from (lines_of text) (first_section (lines_of text)).next
 
--- where the second netlist of a text is a mapping of the first, the plan lines of both have the same words, and the first with its plan is
--- secure against any one failing cell, the second with its plan is secure against any gates of one block that fail at once, any one cell
--- and each listed fault
+-- let the second netlist of a text be a mapping of the first, the plan lines of both have the same words, and the first with its plan be
+-- secure against any one failing cell. Then the second with its plan is secure against any gates of one block that fail at once, any one
+-- cell and each listed fault
 abbrev pub MappedTextsAreSecure : Type 0
 MappedTextsAreSecure = (M : Logic) (text : List ℕ) → mapped_refusal text ≡ None → (is : IsMappingOf (netlist_in text) (mapped_in text))
     → plan_words (mapped_section text) ≡ plan_words (first_lines (lines_of text)) → IsCellSecure M (netlist_in text).circuit (plan_in text)

@@ -23,7 +23,7 @@ pub fn plans_move_by_name()
 {}
 
 /// A law: so a netlist that another one is mapped to is secure, with the plan that these lines state for it, for whatever that one is
-/// secure for: against any gates of one block that fail at once, any one cell, and each listed fault.
+/// secure for against any one cell. It is so against any gates of one block that fail at once, any one cell, and each listed fault.
 pub fn mapped_plans_are_secure()
     ensures secure { MappedPlansAreSecure }
 {}
@@ -49,7 +49,7 @@ pub fn put_plan_lines_move()
 {}
 
 /// A law: and where that netlist is mapped to the one there, this is secure with the plan that it now states, for whatever that one is
-/// secure for: against any gates of one block that fail at once, any one cell, and each listed fault.
+/// secure for against any one cell. It is so against any gates of one block that fail at once, any one cell, and each listed fault.
 pub fn put_plan_lines_are_secure()
     ensures secure { PutPlanLinesAreSecure }
 {}
@@ -64,8 +64,8 @@ pub fn mapped_replies_are_determined()
     ensures one { MappedRepliesAreDetermined }
 {}
 
-/// A law: where the second netlist of a text is a mapping of the first, as a yes says, and has its plan lines, it is secure with its own
-/// plan for whatever the first is secure for with its plan.
+/// A law: let the second netlist of a text be a mapping of the first, as a yes says, and have its plan lines. Then it is secure with its
+/// own plan for whatever the first is secure for with its plan, against any one cell.
 pub fn mapped_texts_are_secure()
     ensures secure { MappedTextsAreSecure }
 {}

@@ -27,6 +27,7 @@ refused_lines text lines given are sound refused =
     let P : List TextLine → Type 0 = λ l. IsRefusedBy (first_of (byte_refusal (bad_line text)) (mapped_lines_refusal l)) given in
     subst P are (refused_later (byte_refusal (bad_line text)) (mapped_lines_refusal lines) given (ap byte_refusal sound) refused)
 
+-- where nothing refuses the bytes of a text or its lines, `audit mapped` of the text is not refused
 pub allowed_lines : (text : List ℕ) (lines : List TextLine) → lines ≡ lines_of text → bad_line text ≡ None
     → mapped_lines_refusal lines ≡ None → mapped_refusal text ≡ None
 allowed_lines text lines are sound allowed =
@@ -40,6 +41,7 @@ module _ (lines : List TextLine) (at : ℕ) (is : at ≡ (first_section lines).n
       let P : ℕ → Type 0 = λ n. IsRefusedBy (first_of (first_refusal Netlist lines) (behind_refusal Unplanned lines n)) given in
       subst P is (refused_later (first_refusal Netlist lines) (behind_refusal Unplanned lines at) given none refused)
 
+  -- where nothing refuses the netlist after it either, `audit mapped` of the lines is not refused
   pub allowed_behind : behind_refusal Unplanned lines at ≡ None → mapped_lines_refusal lines ≡ None
   allowed_behind allowed =
       let P : ℕ → Type 0 = λ n. first_of (first_refusal Netlist lines) (behind_refusal Unplanned lines n) ≡ None in

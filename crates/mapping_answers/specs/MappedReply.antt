@@ -16,8 +16,8 @@ use Rattle.text_sections.specs.Refused.{IsRefusedBy}
 use Rattle.mapping_answers.specs.MappedSections.{mapped_in, mapped_refusal}
 use Rattle.mapping_answers.specs.MappedText.{no_text, yes_text}
 
--- the second netlist is the first mapped cover by cover: it reads so by names and by the blocks that its gates lead to, it has no ring,
--- and with the plan moved it is secure, against any gates of one block that fail at once, for whatever the first is
+-- the second netlist is the first mapped cover by cover: it reads so by names and by the blocks that its gates lead to, and has no ring.
+-- With the plan moved it is secure, against any gates of one block that fail at once, for whatever the first is
 pub record IsMappingOf (N G : NetlistOf) : Type 0 where
   pub names : HasSameNames N G
   pub reads : IsReadSo N.circuit G.circuit (moved_by_name N G)

@@ -1,4 +1,4 @@
--- A text as a netlist with its plan lines, and behind it a mapped one, whose plan lines are passed over: what it denotes, and what is
+-- A text as a netlist with its plan lines, and after it a mapped one, whose plan lines are passed over: what it denotes, and what is
 -- refused of it.
 use Rattle.std.specs.Prelude.{ℕ, List, Option}
 use Rattle.tsc_text.specs.Bytes.{bad_line}
@@ -10,14 +10,15 @@ use Rattle.refusals.specs.declared.refusal.Refusal.{Refusal}
 use Rattle.text_sections.specs.Denoted.{first_section, net_from}
 use Rattle.text_sections.specs.Refused.{behind_refusal, byte_refusal, first_of, first_refusal}
 
--- the netlist that the section behind the first one denotes, and that of a text
+-- the netlist that the section after the first one denotes
 abbrev pub mapped_net : List TextLine → NetlistOf
 mapped_net lines = net_from lines (first_section lines).next
 
+-- the netlist that a text's section after the first one denotes
 abbrev pub mapped_in : List ℕ → NetlistOf
 mapped_in text = mapped_net (lines_of text)
 
--- the lines: the netlist with its plan, then the mapped one behind it
+-- the lines: the netlist with its plan, then the mapped one after it
 abbrev pub mapped_lines_refusal : List TextLine → Option Refusal
 mapped_lines_refusal lines = first_of (first_refusal Netlist lines) (behind_refusal Unplanned lines (first_section lines).next)
 

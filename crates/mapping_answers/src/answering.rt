@@ -14,7 +14,7 @@ use std::alloc::Global;
 use tsc_io::Bytes;
 use tsc_net::Netlist;
 
-/// Whether the netlist behind the first one of `text` is that one mapped cover by cover; if not, the first reason.
+/// Whether the netlist after the first one of `text` is that one mapped cover by cover; if not, the first reason.
 ///
 /// # Errors
 ///

@@ -70,7 +70,7 @@ fn push_reason(
     }
 }
 
-/// Appends a reason, and the name of the net that a node drives behind a blank.
+/// Appends a reason, a blank, and the name of the net that a node drives.
 fn push_node(out: &mut Bytes, reason: &[u8], net: &Netlist, node: usize) -> Result<(), AllocError>
     requires within { node < length net.now.circuit.nodes }
     ensures words { OnOk result (out.new ≡ out.old ++ (reason.now ++ node_word net.now node)) }

@@ -1,4 +1,4 @@
-//! A netlist, and a mapped one behind it.
+//! A netlist, and a mapped one after it.
 ghost use Rattle.std.specs.Prelude.{◌≡◌, ◌≤◌, None, length, IfErr, IfOk, OnOk};
 ghost use Rattle.text_sections.specs.Denoted.{first_net, netlist_in};
 ghost use Rattle.text_sections.specs.Refused.{IsRefusedBy};
@@ -11,7 +11,7 @@ use tsc_io::Bytes;
 use tsc_net::Netlist;
 use tsc_text::Lines;
 
-/// A netlist, and the mapped one behind it.
+/// A netlist, and the mapped one after it.
 #[derive(Drop)]
 pub struct NetlistPair {
     /// The netlist that was mapped.

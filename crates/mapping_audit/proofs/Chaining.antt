@@ -129,9 +129,6 @@ pub record IsWalk (next : List ℕ) (end : ℕ) (all gates : List ℕ) (gate : �
   pub are : all ≡ gates ++ rest
   pub chain : IsChain next end gate rest
 
-pub walk_start : (next : List ℕ) (end : ℕ) (all : List ℕ) (gate : ℕ) → IsChain next end gate all → IsWalk next end all [] gate
-walk_start next end all gate chain = record { rest = all; are = refl; chain = chain }
-
 -- one gate on: it is one of the chain
 pub walk_step : (next : List ℕ) (end : ℕ) (all gates : List ℕ) (gate : ℕ) → gate < end → IsWalk next end all gates gate
     → IsWalk next end all (gates ++ gate ∷ []) (slice_index next gate) × (length gates < length all)

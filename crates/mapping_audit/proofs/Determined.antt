@@ -265,6 +265,7 @@ module _ (N G : NetlistOf) where
   same_stage first second Yes (Wide k) e h h' = absurd (omega arith)
   same_stage first second Yes (No why) e h h' = absurd (let l = (of_reason why).1 in omega arith)
 
+-- of two built netlists there is at most one answer: two are the same
 pub one_answer : OneAnswer
 one_answer N G a b first second h h' = elim (cases_lt (stage a) (stage b)) [
   | inl less ↦ absurd (fails N G first second a (stage b) h less (few N G b) (holds N G b h'))

@@ -7,23 +7,11 @@ use Rattle.fault_secure.specs.Circuit.{LatchOf, no_latch}
 use Rattle.tsc_net.specs.Named.{NamedLatch}
 use Rattle.tsc_net.specs.NetlistOf.{named_latches, names_of}
 use Rattle.tsc_net.specs.Names.{has_text, text_at, place_of_text, find_text}
-use Rattle.tsc_net.proofs.NameLemmas.{find-there, find-absent, place_past}
+use Rattle.tsc_net.proofs.NameLemmas.{find-there, place_past}
 use Rattle.mapping_reading.specs.NamedMapping.{named_latch}
 use Rattle.mapping_reading.proofs.NamesMoved.{length_named_latches, latch_named}
 
 -- ---- the place of a text, as it is looked for
-
-pub place_some : {X : Type 0} (number : X → ℕ) (names : List (List ℕ)) (t : List ℕ) (found : X) → option_map number (Some found) ≡ find_text names t → number found ≡ place_of_text names t
-place_some number names t found e = elim (cases_Bool (has_text names t)) [
-  | inl there ↦ some_same (number found) (place_of_text names t) (e ∙ find-there names t there)
-  | inr absent ↦ absurd (some_none (number found) (e ∙ find-absent names t absent))
-]
-  where
-    some_same : (a b : ℕ) → Some a ≡ Some b → a ≡ b
-    some_same a b h = cc
-
-    some_none : (a : ℕ) → Some a ≡ None → ⊥
-    some_none a h = cc
 
 pub place_none : {X : Type 0} (number : X → ℕ) (names : List (List ℕ)) (t : List ℕ) → option_map number None ≡ find_text names t → length names ≡ place_of_text names t
 place_none number names t e = elim (cases_Bool (has_text names t)) [
@@ -44,11 +32,6 @@ inputs_same a b n m low low' same each =
 
 pub inputs_count : (a b : List (List ℕ)) (n m : ℕ) → n ≤ length a → m ≤ length b → take n a ≡ take m b → n ≡ m
 inputs_count a b n m low low' same = sym (length-take-le n a low) ∙ ap length same ∙ length-take-le m b low'
-
-pub input_same : (a b : List (List ℕ)) (n m k : ℕ) → n ≤ length a → m ≤ length b → take n a ≡ take m b → k < n → text_at a k ≡ text_at b k
-input_same a b n m k low low' same h =
-    let count : n ≡ m = inputs_count a b n m low low' same in
-    sym (get_or-take n a k [] h) ∙ ap (λ (list : List (List ℕ)). get_or list k []) same ∙ get_or-take m b k [] (omega arith)
 
 -- ---- lists of the names of nets
 
@@ -90,7 +73,3 @@ pub latch_same : (a b : List (List ℕ)) (from to : ℕ) (xs ys : List LatchOf) 
 latch_same a b from to xs ys k same h =
     let count : length xs ≡ length ys = latches_count a b from to xs ys same in
     sym (latch_named a from xs k no_named_latch h) ∙ ap (λ (list : List NamedLatch). get_or list k no_named_latch) same ∙ latch_named b to ys k no_named_latch (omega arith)
-
--- a latch by names has the same parts as another that is the same
-pub latch_parts : (a b : List (List ℕ)) (n m : ℕ) (x y : LatchOf) → text_at a x.reads ≡ text_at b y.reads → text_at a n ≡ text_at b m → x.init ≡ y.init → named_latch a n x ≡ named_latch b m y
-latch_parts a b n m x y reads out init = cc

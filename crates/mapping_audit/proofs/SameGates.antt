@@ -29,10 +29,6 @@ went_at moved reads pins k are low =
     let count : length (net_numbers reads) ≡ length reads = length-map reads (λ (n : NetId). n.number) in
     sym (get_or-map (slice_index moved) (net_numbers reads) k 0 0 (omega arith)) ∙ ap (λ list. slice_index list k) (sym are)
 
-pub went_count : (moved : List ℕ) (reads pins : List NetId) → net_numbers pins ≡ map (slice_index moved) (net_numbers reads) → length reads ≡ length pins
-went_count moved reads pins are =
-    sym (length-map reads (λ (n : NetId). n.number)) ∙ sym (length-map (net_numbers reads) (slice_index moved)) ∙ sym (ap length are) ∙ length-map pins (λ (n : NetId). n.number)
-
 -- a node's gate g by its pins and its cover, as they are kept
 module _ (N G : Circuit) (moved : List ℕ) (j g : ℕ) (reads pins : List NetId) (cover other : CoverTable)
     (closed : IsClosed N) (sized : length moved ≡ nets N) (there : j < length N.nodes) (is : g ≡ at_of G moved (node_net N j) - first_net G)

@@ -12,7 +12,7 @@ use tsc_net::Netlist;
 pub struct Chains {
     /// The first gate of each block.
     pub heads: Vec<usize>,
-    /// The gate behind each gate.
+    /// The gate after each gate.
     pub next: Vec<usize>,
 }
 

@@ -67,7 +67,7 @@ pub fn first_failing(
     )
 }
 
-/// The same with words that have a 0 a net, along the chains of the blocks' gates.
+/// The same with words that have one 0 per net, along the chains of the blocks' gates.
 ///
 /// # Errors
 ///

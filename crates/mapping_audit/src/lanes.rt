@@ -1,4 +1,4 @@
-//! Words of bits, a word a net, in which the values of a cover's pins are put, 64 at once.
+//! Words of bits, one word per net, in which the values of a cover's pins are put, 64 at once.
 ghost use Rattle.std.specs.Prelude.{◌≡◌, ℕ, ◌+◌, ◌%◌, ◌<◌, ◌≤◌, length, map, All};
 ghost use Rattle.tsc_bits.specs.Bits.{bits_of};
 ghost use Rattle.fault_secure.specs.Circuit.{node_net, nets};

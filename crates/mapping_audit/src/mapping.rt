@@ -21,7 +21,7 @@ use std::alloc::{AllocError, Global};
 use tsc_net::Netlist;
 
 /// Whether `mapped` reads as `plain` mapped cover by cover, where each net went to that with its name; if not, the first reason. Time
-/// linear in both but for the width of covers; a cover of more than 20 distinct pins is tried only where its gate is the very node.
+/// linear in both except for the width of covers; a cover of more than 20 distinct pins is tried only where its gate is the very node.
 ///
 /// # Errors
 ///

@@ -1,11 +1,11 @@
 //! Where nets went, by their names.
-ghost use Rattle.std.specs.Prelude.{◌≡◌, ◌<◌, IfOk};
+ghost use Rattle.std.specs.Prelude.{◌≡◌, ◌<◌, IfOk, map};
 ghost use Rattle.fault_secure.specs.Circuit.{nets};
 ghost use Rattle.tsc_net.specs.Names.{text_at, place_of_text};
 ghost use Rattle.mapping_reading.specs.NamedMapping.{moved_by_name};
 
 use std::alloc::{AllocError, Global};
-use tsc_net::{NetId, Netlist};
+use tsc_net::{NameTable, NetId, Netlist};
 
 /// For each net the net of `mapped` with its name, and the number of its nets where there is none.
 ///
@@ -19,10 +19,18 @@ pub fn moved_nets(
 ) -> Result<Vec<usize>, AllocError>
     ensures moved { IfOk result (λ moved. moved.items ≡ moved_by_name plain.now mapped.now) }
 {
+    let names = NameTable::of(alloc, mapped)?;
+    moved_among(alloc, plain, &names)
+}
+
+/// For each net the number of its name in a table, and the number of all names where it isn't there.
+fn moved_among(alloc: Global, plain: &Netlist, names: &NameTable) -> Result<Vec<usize>, AllocError>
+    ensures moved { IfOk result (λ moved. moved.items ≡ map (place_of_text names.now) plain.now.names) }
+{
     let count = plain.nets();
     let mut moved = Vec::with_capacity(alloc, count)?;
     for net in 0..count {
-        moved.push(place_of(mapped, name_at(plain, net)))?;
+        moved.push(place_of(names, name_at(plain, net)))?;
     }
     Ok(moved)
 }
@@ -39,12 +47,12 @@ pub fn name_at(net: &Netlist, number: usize) -> &[u8]
     })
 }
 
-/// The number of the net with this name, and that of all nets where there is none.
-fn place_of(net: &Netlist, name: &[u8]) -> usize
-    ensures place { result ≡ place_of_text net.now.names name.now }
+/// The number of this name in a table, and that of all names where it isn't there.
+fn place_of(names: &NameTable, name: &[u8]) -> usize
+    ensures place { result ≡ place_of_text names.now name.now }
 {
-    match net.net(name) {
-        Some(found) => found.number as usize,
-        None => net.nets(),
+    match names.find(name) {
+        Some(place) => place,
+        None => names.len(),
     }
 }

@@ -15,7 +15,7 @@ use node_lanes::{cover_word, settle_words};
 use tsc_net::{NetId, Netlist};
 
 /// The first value of the pins of a node's cover, the first pin most significant, on which some gates don't give the cover's bit at the
-/// node's net, if there is one. `reads` has where the nets at the cover's pins went, `words` a 0 a net, before and after.
+/// node's net, if there is one. `reads` has where the nets at the cover's pins went, `words` one 0 per net, before and after.
 pub fn first_missed(
     plain: &Netlist,
     mapped: &Netlist,
@@ -47,7 +47,7 @@ pub fn first_missed(
     None
 }
 
-/// The points, of the 64 values from `base` on, at which some gates don't give a cover's bit. `words` has a 0 a net, before and after.
+/// The points, of the 64 values from `base` on, at which some gates don't give a cover's bit. `words` has one 0 per net, before and after.
 fn missed_from(
     plain: &Netlist,
     mapped: &Netlist,

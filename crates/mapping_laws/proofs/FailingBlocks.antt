@@ -43,6 +43,7 @@ module _ (N G : Circuit) (block : ℕ → ℕ) where
   gate_of_block_from net s (x ∷ xs) (u ∷ us) h =
       (gate_of_block net (bit x) (bit s) u h.0, gate_of_block_from net (next_state G NoFault u) xs us h.1)
 
+  -- a run of G with a failing cell is one with a failing block: that of the cell of N for which it stands
   pub runs_of_block : (net : ℕ) (xs us : List (List Bool)) → RunsBut G net xs us → RunsButBlock N G block (cell_at N G block net) xs us
   runs_of_block net xs us h = gate_of_block_from net (init_state G) xs us h
 
@@ -59,6 +60,7 @@ module _ (N G : Circuit) (block : ℕ → ℕ) (inputs : G.inputs ≡ N.inputs) 
       (let k = blocks g h in record { no_input = omega arith; inside = omega arith })
   cell_at_place net is (Beyond h) = absurd (let k = is.inside in omega arith)
 
+  -- the cell for which a cell of G stands is a cell of N
   pub cell_is_cell : (net : ℕ) → IsCell G net → IsCell N (cell_at N G block net)
   cell_is_cell net is = cell_at_place net is (place_of G net)
 
@@ -86,6 +88,7 @@ module _ (N G : Circuit) (at block : ℕ → ℕ) (m : IsMapped N G at block) wh
   working : (x s : ℕ → Bool) (v : List Bool) → Settles G NoFault x s v → SettlesButBlock N G block (nets N) x s v
   working x s v h = record { sized = h.sized; inputs = h.inputs; latches = λ l k off. h.latches l k; gates = λ g l off. h.nodes g l }
 
+  -- a valuation of G that settles without a fault does so as one of N
   pub as_working : (x s : ℕ → Bool) (v : List Bool) → Settles G NoFault x s v → Settles N NoFault x s (as_mapped N at v)
   as_working x s v h =
       let k = as_cell (nets N) x s v (working x s v h) in
@@ -109,6 +112,7 @@ module _ (N G : Circuit) (at block : ℕ → ℕ) (m : IsMapped N G at block) wh
         (as_cell_from cell (next_state G NoFault u) xs us h.1),
   )
 
+  -- a run of G without a fault, from any state bits, is one of N too
   pub working_from : (s : List Bool) (xs vs : List (List Bool)) → CleanFrom G s xs vs → CleanFrom N s xs (map (as_mapped N at) vs)
   working_from s [] [] h = tt
   working_from s [] (v ∷ vs) h = absurd h
@@ -127,6 +131,7 @@ module _ (N G : Circuit) (at block : ℕ → ℕ) (m : IsMapped N G at block) wh
   words_from P cell s (x ∷ xs) [] h = absurd h
   words_from P cell s (x ∷ xs) (u ∷ us) h = ap₂ ◌∷◌ (same_words N G at block m u h.0.sized P) (words_from P cell (next_state G NoFault u) xs us h.1)
 
+  -- a run of G in which one block fails is, as one of N, a run in which that block's cell fails
   pub runs_as_cell : (cell : ℕ) (xs us : List (List Bool)) → RunsButBlock N G block cell xs us → RunsBut N cell xs (map (as_mapped N at) us)
   runs_as_cell cell xs us h =
       subst (λ z. RunsButFrom N cell z xs (map (as_mapped N at) us)) (same_init N G at block m) (as_cell_from cell (init_state G) xs us h)

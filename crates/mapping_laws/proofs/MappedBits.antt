@@ -29,14 +29,17 @@ read_moved : (g h : ℕ → Bool) (at : ℕ → ℕ) → ((net : ℕ) → h net 
 read_moved g h at same [] = refl
 read_moved g h at same (n ∷ ns) = ap₂ ◌∷◌ (sym (same n)) (read_moved g h at same ns)
 
+-- without a fault the values that are read are the bits of the nets that are read
 pub pins_moved : (w : List Bool) (h : ℕ → Bool) → ((net : ℕ) → bit w net ≡ h net) → (driver pin : ℕ) (reads : List ℕ) → read_values NoFault w driver pin reads ≡ map h reads
 pins_moved w h same driver pin [] = refl
 pins_moved w h same driver pin (net ∷ reads) = ap₂ ◌∷◌ (same net) (pins_moved w h same driver (suc pin) reads)
 
 module _ (N G : Circuit) (at block : ℕ → ℕ) (m : IsMapped N G at block) where
+  -- both have the same number of latches
   pub same_latches : length G.latches ≡ length N.latches
   same_latches = ap length m.latches ∙ length-map N.latches (moved_latch at)
 
+  -- both start in the same state bits
   pub same_init : init_state G ≡ init_state N
   same_init = ap (map (λ (l : LatchOf). l.init)) m.latches ∙ moved_inits at N.latches
 
@@ -44,6 +47,7 @@ module _ (N G : Circuit) (at block : ℕ → ℕ) (m : IsMapped N G at block) wh
   next_nets_moved = ap (map (λ (l : LatchOf). l.reads)) m.latches ∙ moved_reads at N.latches
 
   module _ (v : List Bool) (sized : length v ≡ nets G) where
+    -- a valuation of G, as one of N, has at each net the bit that stands where it went
     pub mapped_bit : (net : ℕ) → bit (as_mapped N at v) net ≡ bit v (at net)
     mapped_bit net = elim (cases_lt net (nets N)) [
       | inl l ↦ get_or-map-range_with_len (λ n. bit v (at n)) 0 (nets N) net net false l (omega arith)
@@ -59,12 +63,15 @@ module _ (N G : Circuit) (at block : ℕ → ℕ) (m : IsMapped N G at block) wh
     pub mapped_value : (j : ℕ) → node_value N NoFault (as_mapped N at v) j ≡ truth (node N j).cover (map (λ net. bit v (at net)) (node N j).reads)
     mapped_value j = ap (truth (node N j).cover) (pins_moved (as_mapped N at v) (λ net. bit v (at net)) mapped_bit (node_net N j) 0 (node N j).reads)
 
+    -- the outputs are the same in both
     pub same_outputs : (P : CodePlan) → outputs_in G (moved_plan at P) v ≡ outputs_in N P (as_mapped N at v)
     same_outputs P = ap (λ ns. map (bit v) (take P.outputs ns)) m.outputs ∙ ap (map (bit v)) (take-map at P.outputs N.outputs) ∙ bits_moved (take P.outputs N.outputs)
 
+    -- the bits at the inputs of the latches are the same in both
     pub same_next_in : next_in G v ≡ next_in N (as_mapped N at v)
     same_next_in = ap (map (bit v)) next_nets_moved ∙ bits_moved (next_nets N)
 
+    -- without a fault the next state bits are the same in both
     pub same_next : next_state G NoFault v ≡ next_state N NoFault (as_mapped N at v)
     same_next = next_clean G v ∙ same_next_in ∙ sym (next_clean N (as_mapped N at v))
 
@@ -75,6 +82,7 @@ module _ (N G : Circuit) (at block : ℕ → ℕ) (m : IsMapped N G at block) wh
         ∙ ap (λ ns. ns ++ map at (next_nets N)) (sym (map-append at (take P.outputs N.outputs) P.checks))
         ∙ sym (map-append at (take P.outputs N.outputs ++ P.checks) (next_nets N))
 
+    -- the words are the same in both
     pub same_words : (P : CodePlan) → word N P (as_mapped N at v) ≡ word G (moved_plan at P) v
     same_words P = sym (ap (map (bit v)) (monitored_moved P) ∙ bits_moved (monitored N P))
 

@@ -152,6 +152,7 @@ module _ (N G : Circuit) (block : ℕ → ℕ) (cell : ℕ) (acyclic : Acyclic G
       let first = one_valuation (stuck N G block cell bits) NoFault (bit x) (held_state N G block cell bits (bit s)) (stuck_acyclic N G block cell bits acyclic) in
       one_more s bits x given xs first (one_from (next_state G NoFault first.valuation) given xs (omega arith))
 
+  -- there is exactly one run of G in which the drivers of the failing block have given bits
   pub one_run_but_block : (given xs : List (List Bool)) → length given ≡ length xs → HasOneRunButBlock N G block cell given xs
   one_run_but_block given xs e =
       let one = one_from (init_state G) given xs e in

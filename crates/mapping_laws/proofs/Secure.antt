@@ -194,6 +194,7 @@ module _ (N G : Circuit) (at block : ℕ → ℕ) (m : IsMapped N G at block) wh
         (h step q within (ap (λ ss. state_at P (at_step ss step)) (sym states) ∙ traced)
         (λ ok. wrong (subst (AllowsOutputs M P.version q (at_step xs step)) outputs ok)))
 
+-- what is secure against any one failing cell is, mapped cover by cover, secure against any failing gates of one block
 pub mapped_is_block_secure : MappedIsBlockSecure
 mapped_is_block_secure M N G at block P m acyclic secure = record {
   blocks = m.blocks;
@@ -234,10 +235,12 @@ block_secure_is_cell_secure M N G block P inputs latches acyclic secure = record
       secure.flagged (cell_at N G block net) w xs vs us (cell_is_cell N G block inputs latches secure.blocks net is) run (runs_of_block N G block net xs us failing);
 }
 
+-- what is secure against any one failing cell is so too where it is mapped cover by cover
 pub mapped_is_cell_secure : MappedIsCellSecure
 mapped_is_cell_secure M N G at block P m acyclic secure =
     block_secure_is_cell_secure M N G block (moved_plan at P) m.inputs (same_latches N G at block m) acyclic (mapped_is_block_secure M N G at block P m acyclic secure)
 
+-- what is secure against any one failing cell is, mapped cover by cover, fault-secure
 pub mapped_is_fault_secure : MappedIsFaultSecure
 mapped_is_fault_secure M N G at block P m acyclic secure =
     cell_secure_is_fault_secure M G (moved_plan at P) acyclic (mapped_is_cell_secure M N G at block P m acyclic secure)

@@ -41,6 +41,7 @@ inverters_closed = record {
   widths = λ k d h. each 7 (λ k. (slice_index_or inverters.nodes k d).cover.width ≡ length (slice_index_or inverters.nodes k d).reads) (omega arith) k h;
 }
 
+-- the small machine with two inverters in the place of its first node is a mapping of it
 pub inverters_are_mapped : InvertersAreMapped
 inverters_are_mapped = record {
   inputs = refl;
@@ -143,6 +144,7 @@ module _ (at block : ℕ → ℕ) (m : IsMapped small_netlist merged at block) w
       value : (a b : Bool) → bit (around a b false) (at 3) ≡ truth and_cover (a ∷ b ∷ [])
       value a b = m.computes 1 (around a b false) (omega arith) (others 1 a b off) ∙ conjunction (around a b false)
 
+-- the small netlist with y and its copy merged into one gate is no mapping of it
 pub merged_is_not_mapped : MergedIsNotMapped
 merged_is_not_mapped at block m = elim (cases_eq (block 0) 0) [
   | inl e ↦ of_second at block m (λ d. omega arith)

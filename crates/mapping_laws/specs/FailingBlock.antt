@@ -15,7 +15,7 @@ cell_at N G block net =
     if nat_lt net (G.inputs + length G.latches) then net
     else node_net N (block (net - (G.inputs + length G.latches)))
 
--- the valuation v of G settles at every net but those of the drivers that stand for one cell of N, with the input bits x and the
+-- the valuation v of G settles at every net except those of the drivers that stand for one cell of N, with the input bits x and the
 -- state bits s
 pub record SettlesButBlock (N G : Circuit) (block : ℕ → ℕ) (cell : ℕ) (x s : ℕ → Bool) (v : List Bool) : Type 0 where
   pub sized : length v ≡ nets G
@@ -50,8 +50,8 @@ pub record HasOneRunButBlock (N G : Circuit) (block : ℕ → ℕ) (cell : ℕ) 
   pub gives : BlockGives N G block cell given run
   pub only : (vs : List (List Bool)) → RunsButBlock N G block cell xs vs → BlockGives N G block cell given vs → vs ≡ run
 
--- secure against any one failing block or latch: each gate is of the block of a node; over every list of inputs there is exactly one run
--- without a fault, and one for whatever bits the failing gates give; without a fault it follows the source quietly; and with a failing
+-- secure against any one failing block or latch: each gate is of the block of a node. Over every list of inputs there is exactly one run
+-- without a fault, and one for whatever bits the failing gates give. Without a fault it follows the source quietly; and with a failing
 -- block no wrong output comes before its alarm
 pub record IsBlockSecure (M : Logic) (N G : Circuit) (block : ℕ → ℕ) (P : CodePlan) : Type 0 where
   pub blocks : (g : ℕ) → g < length G.nodes → block g < length N.nodes

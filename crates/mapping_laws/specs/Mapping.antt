@@ -18,8 +18,8 @@ abbrev pub moved_latch : (ℕ → ℕ) → LatchOf → LatchOf
 moved_latch at l = record { reads = at l.reads; init = l.init }
 
 -- G is N mapped cover by cover: `at` says where each net of N went, `block` for which node of N each gate of G stands.
--- Inputs and latches stay, and what latches read and what is shown is moved; a net of N is one of G, and what is no net of N is none of G;
--- where N reads and shows only its own nets, so does G; and wherever the gates of a node's block settle, the node's net has the value of
+-- Inputs and latches stay, and what latches read and what is shown is moved; a net of N is one of G, and what is no net of N is none of G.
+-- Where N reads and shows only its own nets, so does G; and wherever the gates of a node's block settle, the node's net has the value of
 -- its cover on the nets at its pins. Where they can't settle, as in a ring, this says nothing of the node: so the laws take G without a
 -- ring. A block may be empty where its node only repeats a net: then its net is that net
 pub record IsMapped (N G : Circuit) (at block : ℕ → ℕ) : Type 0 where

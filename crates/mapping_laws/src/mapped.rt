@@ -1,7 +1,7 @@
 //! What mapping cover by cover keeps.
 ghost use Rattle.mapping_laws.specs.MappingLaws.{BlockSecureIsCellSecure, MappedIsBlockSecure, MappedIsCellSecure, MappedIsFaultSecure};
 
-/// A netlist that is secure against any one failing cell, mapped cover by cover without a ring, is secure against any gates of one
+/// What is secure against any one failing cell, mapped cover by cover without a ring, is secure against any gates of one
 /// block that fail at once, whatever bits they give at whatever steps, and against any failing latch.
 pub fn mapped_is_block_secure()
     ensures secure { MappedIsBlockSecure }

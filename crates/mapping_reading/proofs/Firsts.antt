@@ -24,6 +24,7 @@ module _ (N G : Circuit) (at block : ℕ → ℕ) where
       (λ low. first.here.open_there (second.first g pin low first.some first.here.has))
       (λ low. second.here.open_there (first.first h other low second.some second.here.has))
 
+-- there is at most one first shared gate, one first open pin, and one first value that a block misses
 pub firsts_are_one : FirstsAreOne
 firsts_are_one = record {
   gates = λ G owners none blocks d e first second. one_first d e (λ low. second.first d low first.shared) (λ low. first.first e low second.shared);
@@ -34,5 +35,6 @@ firsts_are_one = record {
       one_first value other (λ low. first.missed (second.first value low)) (λ low. second.missed (first.first other low));
 }
 
+-- there is at most one first node whose net's name isn't that of a net that a gate drives
 pub first_missing_is_one : FirstMissingIsOne
 first_missing_is_one N G j k first second = one_first j k (λ low. first.missing (second.first j low)) (λ low. second.missing (first.first k low))

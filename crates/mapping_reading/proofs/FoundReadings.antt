@@ -184,18 +184,22 @@ module _ (N G : Circuit) (moved owners blocks : List ℕ) (found : AreFound N G 
       covers = covers;
     }
 
+-- G reads as N mapped by the found blocks if no pin is open, each gate is its node or gives the cover, and N has nodes if G has
 pub found_blocks_read : FoundBlocksRead
 found_blocks_read N G moved owners blocks have found some well covers = reads_found N G moved owners blocks found have some well covers
 
 pub no_nodes_refute : NoNodesRefute
 no_nodes_refute N G moved none some read = let node = read.1.some_node some in omega arith
 
+-- where a gate leads to two blocks, G reads as N mapped by no blocks
 pub shared_gate_refutes : SharedGateRefutes
 shared_gate_refutes N G moved owners blocks d found first read = never_shared N G moved owners blocks found read.0 read.1 d first
 
+-- where a pin is open by the found blocks, G reads as N mapped by no blocks
 pub open_pin_refutes : OpenPinRefutes
 open_pin_refutes N G moved owners blocks g pin found first read = never_open N G moved owners blocks found read.0 read.1 g pin first
 
+-- where a found block misses its cover, G reads as N mapped by no blocks, if both are closed and N has no ring
 pub missed_cover_refutes : MissedCoverRefutes
 missed_cover_refutes N G moved owners blocks j value closed acyclic also found low first read =
     first.missed (given_found N G moved owners blocks found read.0 read.1 closed acyclic also j low value first.inside)

@@ -180,6 +180,7 @@ module _ (G : Circuit) (order owners : List ℕ) (none : ℕ) (whole : IsOrder (
   same_blocks blocks those first second = ext_get_or 0 blocks those (first.sized ∙ sym second.sized)
       (λ g h. same_block_from blocks those first second (length order) g (omega arith) (omega (arith, first.sized)))
 
+-- where nets have moved, owners and blocks that are found are one: two are the same
 pub found_are_one : FoundAreOne
 found_are_one N G moved owners blocks others those have first second =
     let same = same_owners N G (at_of G moved) have.apart.apart owners others first.owned second.owned in (

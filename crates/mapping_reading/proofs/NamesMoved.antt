@@ -17,10 +17,12 @@ use Rattle.mapping_reading.specs.ReadMapping.{some_block}
 
 -- ---- latches by names, one by one
 
+-- there is one latch by names for each latch
 pub length_named_latches : (names : List (List ℕ)) (from : ℕ) (latches : List LatchOf) → length (named_latches names from latches) ≡ length latches
 length_named_latches names from [] = refl
 length_named_latches names from (l ∷ latches) = ap suc (length_named_latches names (from + 1) latches)
 
+-- the latch by names at place i is latch i, whose net is that of the first latch and i more
 pub latch_named : (names : List (List ℕ)) (from : ℕ) (latches : List LatchOf) (i : ℕ) (d : NamedLatch) → i < length latches
     → slice_index_or (named_latches names from latches) i d ≡ named_latch names (from + i) (slice_index_or latches i no_latch)
 latch_named names from [] i d h = absurd (omega arith)
@@ -181,9 +183,11 @@ module _ (N G : NetlistOf) (first : IsBuilt N) (second : IsBuilt G) (same : HasS
     apart = record { gates = node_goes; apart = go_apart };
   }
 
+-- nets of built netlists have moved by name, where inputs, latches and outputs have the same names, and each node's net a gate's
 pub names_move : NamesMove
 names_move N G first second same = have_moved N G first second same
 
+-- a closed G with an order that reads as N mapped by names is N mapped, and secure where N is against any one failing cell
 pub names_stay_secure : NamesStaySecure
 names_stay_secure N G block closed whole read = record {
   mapped = read_mapping_is_mapping N.circuit G.circuit (at_of G.circuit (moved_by_name N G)) block _ closed whole read;

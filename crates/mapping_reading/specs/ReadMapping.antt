@@ -51,10 +51,11 @@ with_bits (pin ∷ pins) (b ∷ bits) row = with_bits pins bits (slice_set row p
 abbrev pub pin_row : Circuit → Circuit → (ℕ → ℕ) → ℕ → ℕ → List Bool
 pin_row N G at j value = with_bits (block_pins N at j) (bits_of (length (block_pins N at j)) value) (replicate (nets G) false)
 
--- what the block gives for this value of its pins, and what the cover does
+-- what the block gives for this value of its pins
 abbrev pub block_bit : Circuit → Circuit → (ℕ → ℕ) → (ℕ → ℕ) → List ℕ → ℕ → ℕ → Bool
 block_bit N G at block order j value = bit (evaluated G (members block order j) (pin_row N G at j value)) (at (node_net N j))
 
+-- what the node's cover gives for this value of the block's pins
 abbrev pub cover_bit : Circuit → Circuit → (ℕ → ℕ) → ℕ → ℕ → Bool
 cover_bit N G at j value = truth (node N j).cover (map (λ net. bit (pin_row N G at j value) (at net)) (node N j).reads)
 

@@ -132,6 +132,7 @@ module _ (parts : List PlannedOf) (some : 0 < length parts) (are : ArePlanned pa
   sound : AreSoundMembers (map (member (joint_inputs parts)) parts)
   sound = all_sound (joint_inputs parts) parts are
 
+  -- planned netlists, at least one of them, have the joint that is stated
   pub joined : IsJointOf parts
   joined =
       let ms = map (member (joint_inputs parts)) parts in
@@ -156,6 +157,7 @@ module _ (parts : List PlannedOf) (some : 0 < length parts) (are : ArePlanned pa
 pub join_is_joint : JoinIsJoint
 join_is_joint parts some are = joined parts some are
 
+-- planned netlists that are each secure against any one failing cell have a joint that is so
 pub join_is_cell_secure : JoinIsCellSecure
 join_is_cell_secure M parts some are secure =
     let j = joined parts some are in
@@ -163,6 +165,7 @@ join_is_cell_secure M parts some are secure =
     let low : i < length parts = omega (arith, j.counted) in
     subst₂ (IsCellSecure (M i)) (sym (j.circuits i low)) (sym (j.plans i low)) (secure i low))
 
+-- planned netlists that are each fault-secure have a fault-secure joint
 pub join_is_fault_secure : JoinIsFaultSecure
 join_is_fault_secure M parts some are secure =
     let j = joined parts some are in

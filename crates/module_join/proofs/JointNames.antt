@@ -116,6 +116,7 @@ own_apart prefix names i (p ∷ parts) few each =
 
 -- ---- latches and nodes of one netlist
 
+-- where all netlists are planned, so is the one at each place
 pub planned_at : (parts : List PlannedOf) → ArePlanned parts → (i : ℕ) → i < length parts → IsPlanned (planned parts i)
 planned_at [] are i h = absurd (omega arith)
 planned_at (p ∷ parts) are zero h = are.0
@@ -209,7 +210,7 @@ all_of_tree prefix (n ∷ ns) = All-cons (IsOfTree prefix) (tree_text prefix n) 
 no_digit : (c : ℕ) → digit_value c < 10 → c ≡ 116 → ⊥
 no_digit c d e = omega (arith, digit_from_value c d)
 
--- nor is the mark behind the digits
+-- nor is the mark after the digits
 no_mark : (c : ℕ) → c ≡ 95 → c ≡ 116 → ⊥
 no_mark c a b = omega arith
 
@@ -296,9 +297,11 @@ length-node_texts inputs prefix i (p ∷ parts) are =
     ∙ omega (arith, length-map (node_names p) (own_text prefix i), length-node_names p are.0, length-node_texts inputs prefix (i + 1) parts are.1)
 
 module _ (parts : List PlannedOf) (some : 0 < length parts) (are : ArePlanned parts) where
+  -- a joint has as many latches as its parts together
   pub many_l : length (joint parts).circuit.latches ≡ latches_in (map (member (joint_inputs parts)) parts)
   many_l = many_latches (length (joint_inputs parts)) (map (member (joint_inputs parts)) parts) (tree_gates (length parts)) (nodes_of_tree (tree_made (length parts))) (tree parts some are)
 
+  -- a joint has as many nodes as its parts and the tree together
   pub many_n : length (joint parts).circuit.nodes ≡ nodes_in (map (member (joint_inputs parts)) parts) + tree_gates (length parts)
   many_n = many_nodes (length (joint_inputs parts)) (map (member (joint_inputs parts)) parts) (tree_gates (length parts)) (nodes_of_tree (tree_made (length parts))) (tree parts some are)
 
@@ -310,6 +313,7 @@ module _ (parts : List PlannedOf) (some : 0 < length parts) (are : ArePlanned pa
       (fails_each (begins_with (joint_prefix (joint_inputs parts))) (joint_inputs parts) (free-isnt-taken-under 112 (joint_inputs parts) few_inputs))
       are few_parts (omega arith))
 
+  -- a joint netlist has one name for each of its nets
   pub joint_sized : length (joint_netlist parts).names ≡ nets (joint parts).circuit
   joint_sized =
       let prefix = joint_prefix (joint_inputs parts) in
@@ -327,6 +331,7 @@ module _ (parts : List PlannedOf) (some : 0 < length parts) (are : ArePlanned pa
         many_n,
       )
 
+-- a joint netlist of fewer than 2^32 nets is one as it is built: different nets have different names
 pub join_is_built : JoinIsBuilt
 join_is_built parts some are few =
     let j = joined parts some are in

@@ -130,6 +130,7 @@ module _ (parts : List PlannedOf) (some : 0 < length parts) (are : ArePlanned pa
       ∙ get_or-append-add (own_texts prefix node_names 0 parts) trees k []
       ∙ get_or-map-range_with_len (tree_text (joint_prefix (joint_inputs parts))) 0 (tree_gates (length parts)) k k [] h (omega arith)
 
+-- in a joint netlist the name of each net is that of where it comes from
 pub join_names_nets : JoinNamesNets
 join_names_nets parts some are = record {
   latches = latch_named parts some are;

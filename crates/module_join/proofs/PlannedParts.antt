@@ -1,4 +1,4 @@
--- One more netlist with a plan of it behind others.
+-- One more netlist with a plan of it after others.
 use Rattle.std.proofs.Common.{List, [], ◌∷◌, ◌++◌}
 use Rattle.tsc_net.specs.declared.planned.PlannedNetlist.{PlannedNetlist}
 use Rattle.module_join.specs.JoinParts.{planned_as, parts_as}

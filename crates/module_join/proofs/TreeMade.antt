@@ -27,7 +27,7 @@ IsOver before (And a b) = (has before a ≡ true) × (has before b ≡ true)
 IsOver before (Or a b) = (has before a ≡ true) × (has before b ≡ true)
 IsOver before (Xor a b) = (has before a ≡ true) × (has before b ≡ true)
 
--- behind some signals each signal is new, and over earlier ones
+-- after some signals each signal is new, and over earlier ones
 abbrev Goes : List Signal → List Signal → Type 0
 Goes before [] = Unit {0}
 Goes before (s ∷ signals) = IsOver before s × (has before s ≡ false) × Goes (before ++ s ∷ []) signals
@@ -174,7 +174,7 @@ module _ (signals : List Signal) where
   reads_below before (s ∷ rest) (suc k) n is goes at h =
       reads_below (before ++ s ∷ []) rest k n (append_assoc before (s ∷ []) rest ∙ is) goes.2 (omega (arith, length-append before (s ∷ []))) (omega arith)
 
--- a signal of before stands nowhere behind
+-- a signal that stood before stands nowhere after
 new_behind : (before rest : List Signal) (s : Signal) (k : ℕ) → Goes before rest → has before s ≡ true → k < length rest → s ≡ signal_at rest k → ⊥
 new_behind before [] s k goes h within e = absurd (omega arith)
 new_behind before (t ∷ rest) s zero goes h within e = true≢false (sym h ∙ ap (has before) e ∙ goes.1)
@@ -240,5 +240,6 @@ module _ (one other : Signal) where
     distinct = distinct;
   }
 
+-- for each number of pairs the stated tree is a tree over so many pairs
 pub tree_is_made : TreeIsMade
 tree_is_made pairs = walk_is (tree_rail1 pairs) (tree_rail2 pairs)

@@ -250,6 +250,7 @@ tree_nodes_decide pairs made some is = record {
             ∙ get_or-map (value (map (bit v) word)) (signals_of made.gates) place (Word 0) false (omega (arith, length-signals_of made.gates))
             ∙ ap (value (map (bit v) word)) e
 
+-- each tree over so many pairs is the stated one
 pub tree_is_determined : TreeIsDetermined
 tree_is_determined pairs made is = same
   where

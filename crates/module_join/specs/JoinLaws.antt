@@ -19,6 +19,7 @@ use Rattle.module_join.specs.JointNet.{PlannedOf, joint_inputs, joint_prefix, ow
 abbrev pub no_planned : PlannedOf
 no_planned = record { net = record { circuit = no_part.circuit; names = []; model = [] }; plan = no_part.plan }
 
+-- netlist number i with its plan, and `no_planned` past the end
 abbrev pub planned : List PlannedOf → ℕ → PlannedOf
 planned parts i = slice_index_or parts i no_planned
 
@@ -27,12 +28,13 @@ pub record IsPlanned (p : PlannedOf) : Type 0 where
   pub built : IsBuilt p.net
   pub plan : IsPlanOf p.net.circuit p.plan
 
+-- each of the netlists was built, and its plan is of it
 abbrev pub ArePlanned : List PlannedOf → Type 0
 ArePlanned [] = Unit {0}
 ArePlanned (p ∷ parts) = IsPlanned p × ArePlanned parts
 
 -- the joint of parts: a joint, closed and without a ring, whose part number i is the i-th netlist with
--- its plan, each input of which is the joint's input of that name; its nodes are those of the parts and of the tree
+-- its plan. Each input of a part is the joint's input of that name; the nodes are those of the parts and of the tree
 pub record IsJointOf (parts : List PlannedOf) : Type 0 where
   pub is_joint : IsJoint (joint parts)
   pub acyclic : Acyclic (joint parts).circuit
@@ -60,8 +62,8 @@ abbrev pub JoinIsBuilt : Type 0
 JoinIsBuilt = (parts : List PlannedOf) → 0 < length parts → ArePlanned parts
     → nets (joint parts).circuit < 2 ^ 32 → IsBuilt (joint_netlist parts)
 
--- the name of each net is that of where it comes from: of a latch or node of a part the part's own name of it, behind the prefix and the
--- part's number, and of a node of the tree its number
+-- the name of each net is that of where it comes from. For a latch or node of a part it is the part's own name of it, after the prefix and the
+-- part's number; for a node of the tree it is its number
 pub record NamesFollow (parts : List PlannedOf) : Type 0 where
   pub latches : (i l : ℕ) → i < length parts → l < length (planned parts i).net.circuit.latches
       → text_at (joint_netlist parts).names ((part (joint parts) i).at (latch_net (planned parts i).net.circuit l))

@@ -6,7 +6,7 @@ use Rattle.module_join.specs.JointNet.{PlannedOf, joint_inputs}
 use Rattle.module_join.specs.declared.limits.JoinError.{JoinError}
 use Rattle.module_join.specs.declared.limits.JoinError.TheVariants.{TooManyInputs, TooManyNodes, Memory}
 
--- the nodes of the joint: those of its parts, and of the tree over them six a cell and two for the rails
+-- the nodes of the joint: those of its parts, and of the tree over them, six per cell and two for the rails
 abbrev pub joint_nodes : List PlannedOf → ℕ
 joint_nodes parts = sum_by (λ (p : PlannedOf). length p.net.circuit.nodes) parts + tree_gates (length parts)
 

@@ -20,7 +20,7 @@ pub record PlannedOf : Type 0 where
 abbrev pub input_names : NetlistOf → List (List ℕ)
 input_names net = take net.circuit.inputs net.names
 
--- the texts behind others, each where it wasn't there
+-- the texts after others, each where it wasn't there
 abbrev pub with_texts : List (List ℕ) → List (List ℕ) → List (List ℕ)
 with_texts seen [] = seen
 with_texts seen (text ∷ texts) = with_texts (with_text seen text) texts
@@ -30,6 +30,7 @@ abbrev pub inputs_from : List (List ℕ) → List PlannedOf → List (List ℕ)
 inputs_from seen [] = seen
 inputs_from seen (p ∷ parts) = inputs_from (with_texts seen (input_names p.net)) parts
 
+-- the names of the joint's inputs: those of all parts, each once, in the order in which they are first seen
 abbrev pub joint_inputs : List PlannedOf → List (List ℕ)
 joint_inputs parts = inputs_from [] parts
 
@@ -41,6 +42,7 @@ joint_prefix inputs = lettered_prefix 112 (free_number_under 112 inputs)
 abbrev pub own_text : List ℕ → ℕ → List ℕ → List ℕ
 own_text prefix i name = prefix ++ (decimal i ++ 95 ∷ name)
 
+-- the name of node number k of the tree
 abbrev pub tree_text : List ℕ → ℕ → List ℕ
 tree_text prefix k = prefix ++ 116 ∷ decimal k
 
@@ -48,6 +50,7 @@ tree_text prefix k = prefix ++ 116 ∷ decimal k
 abbrev pub latch_names : PlannedOf → List (List ℕ)
 latch_names p = take (length p.net.circuit.latches) (drop p.net.circuit.inputs p.net.names)
 
+-- the names of a netlist's nodes
 abbrev pub node_names : PlannedOf → List (List ℕ)
 node_names p = drop (p.net.circuit.inputs + length p.net.circuit.latches) p.net.names
 

@@ -28,7 +28,7 @@ tree_made pairs = record {
   rail2 = place_of (tree_signals pairs) (tree_rail2 pairs);
 }
 
--- as nodes they are a tree over the pairs: six nodes a cell, and two for the rails
+-- as nodes they are a tree over the pairs: six nodes per cell, and two for the rails
 abbrev pub TreeNodesDecide : Type 0
 TreeNodesDecide = (pairs : ℕ) (made : GateList) → 0 < pairs → IsTreeOf pairs made → IsTree pairs (tree_gates pairs) (nodes_of_tree made)
 

@@ -6,7 +6,7 @@ use std::alloc::{AllocError, Global};
 use tsc_io::Bytes;
 use tsc_net::NameTable;
 
-/// What the names of all nets but the inputs begin with: `p`, the least number with which no input begins so, and `_`.
+/// What the names of all nets except the inputs begin with: `p`, the least number with which no input begins so, and `_`.
 ///
 /// # Errors
 ///

@@ -14,6 +14,7 @@ use Rattle.tsc_bits.proofs.Counting.{ones-zeros}
 use Rattle.tsc_bits.proofs.Thermometers.{thermo_length, thermo_ones}
 use Rattle.tsc_bits.proofs.Lists.{front, back}
 
+-- outputs, the thermometer of their zeros, and any further bits are a word that has its m-out-of-n check
 pub word_checked : (P : CodePlan) (outputs next : List Bool) → length outputs ≡ P.outputs → length P.checks ≡ P.outputs → IsChecked MOutOfN P ((outputs ++ thermo (length outputs) (zeros outputs)) ++ next)
 word_checked P outputs next sized paired =
     let checks : List Bool = thermo (length outputs) (zeros outputs) in

@@ -6,7 +6,7 @@ ghost use Rattle.tsc_bits.specs.Thermometer.{thermo};
 
 use berger_code::check_of;
 
-/// The check of the last `k` bits of `outputs`, which are 1 to 64: its last `k` bits, of which the j-th, from 1 and
+/// The check of the last `k` bits of `outputs`, which are 1 to 64: its last `k` bits. The j-th of them, from 1 and
 /// the most significant first, is 1 exactly where at least j of those of `outputs` are 0.
 pub fn thermo_of(k: usize, outputs: u64) -> u64
     requires some { 0 < k }

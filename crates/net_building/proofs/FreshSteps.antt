@@ -48,6 +48,7 @@ number_more names after name first count so_far is pushed =
 pub fresh_sized : (names : List Name) (first count : ℕ) → names ≡ map numbered (range_with_len first count) → length names ≡ count
 fresh_sized names first count are = ap length are ∙ length-map-range_with_len numbered first count
 
+-- names that are numbered in a row up to the end of a table are names of it
 pub fresh_are_names : (texts : List (List ℕ)) (names : List Name) (first count : ℕ) → names ≡ map numbered (range_with_len first count) → length texts ≡ first + count → All (IsName texts) names
 fresh_are_names texts names first count are long =
     All-from_get_or (IsName texts) names (numbered 0) (λ k low. (

@@ -17,6 +17,7 @@ module _ (N : Named) where
   front_counted : length (N.inputs ++ latch_outs N) ≡ length N.inputs + length N.latches
   front_counted = omega (arith, length-append N.inputs (latch_outs N), length-map N.latches (λ (l : NamedLatch). l.out))
 
+  -- there is one driver per input, latch and node
   pub drivers_counted : length (drivers N) ≡ length N.inputs + length N.latches + length N.nodes
   drivers_counted = omega (arith, front_counted, length-append (N.inputs ++ latch_outs N) (node_outs N), length-map N.nodes (λ (n : NamedNode). n.out))
 
@@ -31,6 +32,7 @@ module _ (N : Named) where
       get_or_append_left (N.inputs ++ latch_outs N) (node_outs N) [] (length N.inputs + i) (omega (arith, front_counted))
       ∙ get_or-append-add N.inputs (latch_outs N) i []
 
+  -- after those of the inputs and latches come the names that nodes drive
   pub node_drives : (k : ℕ) → k < length N.nodes → text_at (drivers N) (length N.inputs + length N.latches + k) ≡ text_at (node_outs N) k
   node_drives k h =
       ap (λ n. text_at (drivers N) n) (let e = front_counted in omega (arith, e))
@@ -40,12 +42,15 @@ module _ (N : Named) where
   latches_counted = length-map N.latches _
 
   module _ (distinct : IsNumbering (drivers N)) where
+    -- the place of an input's name among the drivers is its net
     pub place_of_input : (i : ℕ) → i < length N.inputs → place_of_text (drivers N) (text_at N.inputs i) ≡ i
     place_of_input i h = ap (place_of_text (drivers N)) (sym (input_drives i h)) ∙ place_at (drivers N) i distinct (omega (arith, drivers_counted))
 
+    -- the place of the name that a latch gives, among the drivers, is the latch's net
     pub place_of_latch : (i : ℕ) → i < length N.latches → place_of_text (drivers N) (text_at (latch_outs N) i) ≡ latch_net (circuit_of N) i
     place_of_latch i h = ap (place_of_text (drivers N)) (sym (latch_drives i h)) ∙ place_at (drivers N) (length N.inputs + i) distinct (omega (arith, drivers_counted))
 
+    -- the place of the name that a node drives, among the drivers, is the node's net
     pub place_of_node : (k : ℕ) → k < length N.nodes → place_of_text (drivers N) (text_at (node_outs N) k) ≡ node_net (circuit_of N) k
     place_of_node k h =
         ap (place_of_text (drivers N)) (sym (node_drives k h))

@@ -15,7 +15,7 @@ pub fn built(alloc: Global, parts: Parts) -> Result<Netlist, AllocError>
     requires sound { IsSound parts.named }
     ensures exact { IfOk result (λ net. net ≡ netlist_of parts.named) }
 {
-    match Netlist::build(alloc, parts) {
+    match parts.build(alloc) {
         Ok(net) => Ok(net),
         Err(error) => Err(memory_of(error)),
     }

@@ -23,9 +23,11 @@ pub record ConeSoFar (C : Circuit) (roots order : List ℕ) (left : ℕ) (marks 
   pub closed : (i pin k : ℕ) → left ≤ i → i < length order → pin < length (node C (slice_index order i)).reads → k < length C.nodes
       → pin_net C (slice_index order i) pin ≡ node_net C k → IsTrue (bit marks (slice_index order i)) → IsTrue (bit marks k)
 
+-- the test of two different numbers fails
 pub same_false : (x y : ℕ) → (y ≡ x → ⊥) → (y == x) ≡ false
 same_false x y apart = grind (arith, common_steps)
 
+-- the test of two equal numbers passes
 pub same_true : (x y : ℕ) → y ≡ x → (y == x) ≡ true
 same_true x y e = grind (arith, common_steps)
 

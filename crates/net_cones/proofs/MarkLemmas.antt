@@ -5,9 +5,11 @@ use Rattle.std.proofs.lemmas.Grind.{common_steps}
 use Rattle.fault_secure.specs.Circuit.{bit}
 use Rattle.net_cones.specs.Marks.{mark_driver, mark_drivers}
 
+-- for a net below the first that a node drives nothing is marked
 pub mark_driver-before : (first net : ℕ) (marks : List Bool) → net < first → mark_driver first net marks ≡ marks
 mark_driver-before first net marks h = grind (arith, common_steps)
 
+-- for a net from the first on that a node drives, the mark of its driver is set
 pub mark_driver-from : (first net : ℕ) (marks : List Bool) → first ≤ net → mark_driver first net marks ≡ slice_set marks (net - first) true
 mark_driver-from first net marks h = grind (arith, common_steps)
 
@@ -17,6 +19,7 @@ length-mark_driver first net marks = elim (cases_lt net first) [
   | inr high ↦ ap length (mark_driver-from first net marks high) ∙ length-set marks (net - first) true
 ]
 
+-- marking the drivers of nets keeps the number of marks
 pub length-mark_drivers : (first : ℕ) (nets : List ℕ) (marks : List Bool) → length (mark_drivers first nets marks) ≡ length marks
 length-mark_drivers first [] marks = refl
 length-mark_drivers first (net ∷ nets) marks = length-mark_drivers first nets (mark_driver first net marks) ∙ length-mark_driver first net marks
@@ -67,6 +70,7 @@ pub drivers_stay : (first q : ℕ) (nets : List ℕ) (marks : List Bool) → IsT
 drivers_stay first q [] marks is = is
 drivers_stay first q (net ∷ nets) marks is = drivers_stay first q nets (mark_driver first net marks) (driver_stays first net q marks is)
 
+-- what is marked after marking the drivers of nets was marked before, or drives one of the nets
 pub drivers_from : (first q : ℕ) (nets : List ℕ) (marks : List Bool) → IsTrue (bit (mark_drivers first nets marks) q) → IsTrue (bit marks q) ⊎ Contains nets (first + q)
 drivers_from first q [] marks is = inl is
 drivers_from first q (net ∷ nets) marks is =
@@ -75,6 +79,7 @@ drivers_from first q (net ∷ nets) marks is =
       | inr (k, within, e) ↦ inr (suc k, omega arith, e)
     ]
 
+-- a node that drives one of the nets is marked
 pub drivers_set : (first q : ℕ) (nets : List ℕ) (marks : List Bool) → q < length marks → Contains nets (first + q) → IsTrue (bit (mark_drivers first nets marks) q)
 drivers_set first q [] marks within (k, there, e) = absurd (omega arith)
 drivers_set first q (net ∷ nets) marks within (zero, there, e) = drivers_stay first q nets (mark_driver first net marks) (driver_set first net q marks within e)

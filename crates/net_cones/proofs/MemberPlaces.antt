@@ -2,6 +2,7 @@
 use Rattle.std.proofs.Common.{◌≡◌, ℕ, zero, suc, ◌+◌, ◌<◌, List, [], ◌∷◌, ◌++◌, length, slice_index_or, ◌∙◌, ap, arith}
 use Rattle.fault_secure.specs.CodePlan.{members_from}
 
+-- the members of group i are its places and then that of its check
 pub member_at : (check : ℕ) (groups : List (List ℕ)) (i : ℕ) → i < length groups
     → slice_index_or (members_from check groups) i [] ≡ slice_index_or groups i [] ++ (check + i) ∷ []
 member_at check [] i within = absurd (omega arith)

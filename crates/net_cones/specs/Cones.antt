@@ -20,6 +20,7 @@ marked_from at [] = []
 marked_from at (true ∷ marks) = at ∷ marked_from (suc at) marks
 marked_from at (false ∷ marks) = marked_from (suc at) marks
 
+-- the places that are marked, the first mark standing for place 0
 abbrev pub marked : List Bool → List ℕ
 marked marks = marked_from 0 marks
 

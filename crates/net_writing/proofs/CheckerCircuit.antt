@@ -49,7 +49,7 @@ module _ (N : Named) (distinct : IsNumbering (drivers N)) where
       ∙ ap₂ (λ (c : CoverTable) (list : List ℕ). node_over c list) cover (ap (map (place_of_text (drivers N))) reads ∙ net_reads texts n g low below)
 
   module _ (word : List (List ℕ)) (given : ℕ → Option (List ℕ)) where
-    -- the nets of gates behind those so far
+    -- the nets of gates after those so far
     gates_nets : (gates : List CheckGate) (s : GateParts) → N.nodes ≡ (with_gates word given gates s).parts.named.nodes → ReadInOrder (length word) (length s.names) gates
         → nets_of N (with_gates word given gates s).names ≡ nets_of N s.names ++ gate_nets (nets_of N word) (node_net (circuit_of N) (length s.parts.named.nodes)) gates
     gates_nets [] s nodes order = sym (append-nil (nets_of N s.names))
@@ -80,7 +80,7 @@ module _ (N : Named) (distinct : IsNumbering (drivers N)) where
             ∙ append_assoc (nets_of N t.names) (place_of_text (drivers N) (out_text t.parts o) ∷ []) (gate_nets (nets_of N word) (node_net (circuit_of N) at + 1) rest)
             ∙ ap (λ (k : ℕ). nets_of N t.names ++ k ∷ gate_nets (nets_of N word) (node_net (circuit_of N) at + 1) rest) net
 
-    -- the nodes of gates behind those so far
+    -- the nodes of gates after those so far
     gates_nodes : (gates : List CheckGate) (s : GateParts) → N.nodes ≡ (with_gates word given gates s).parts.named.nodes → ReadInOrder (length word) (length s.names) gates
         → drop (length s.parts.named.nodes) (circuit_of N).nodes ≡ gate_nodes (nets_of N (with_gates word given gates s).names) gates
     gates_nodes [] s nodes order = drop_all (length s.parts.named.nodes) (circuit_of N).nodes (omega (arith, ap length nodes, length-map N.nodes (λ (n : NamedNode). node_over n.cover (map (place_of_text (drivers N)) n.reads))))
@@ -140,7 +140,7 @@ module _ (p : PartsOf) (word : List (List ℕ)) (made : GateList) (rails : Optio
       gates_nets N distinct word (given_text p.names made rails) made.gates (record { parts = p; names = [] }) nodes (checker_in_order (length word) made over)
       ∙ ap (λ (list : List ℕ). gate_nets list (node_net (circuit_of N) (length p.named.nodes)) made.gates) (sym monitored_are)
 
-  -- the nodes behind those that stood, over the nets of the gates
+  -- the nodes after those that stood, over the nets of the gates
   checker_nodes_are : drop (length p.named.nodes) (circuit_of N).nodes ≡ gate_nodes (nets_of N (with_checker p word made rails).names) made.gates
   unfolding with_checker
   checker_nodes_are = gates_nodes N distinct word (given_text p.names made rails) made.gates (record { parts = p; names = [] }) nodes (checker_in_order (length word) made over)

@@ -123,7 +123,7 @@ module _ (p : PartsOf) (word : List (List ℕ)) (made : GateList) where
     undriven = λ k t low e. given_free p made rails free k t e;
   }
 
-  -- and so it is behind it
+  -- and so it is after it
   drives_apart : (rails : Option RailNames) → AreRailNames p.names rails → AreFreeRails p rails → IsNumbering (drivers p.named) → All (λ t. has_text p.names t ≡ true) (drivers p.named)
       → IsNumbering (with_checker p word made rails).parts.names → DrivesApart (given_text p.names made rails) (with_checker p word made rails)
   unfolding with_checker

@@ -41,13 +41,13 @@ pub reads_stay : (s q : GateParts) (g : CheckGate) → GatesCame s q → ReadsGa
 reads_stay s q g h below =
     map_agrees (λ place. place < length s.names) (text_at s.names) (text_at q.names) (λ place low. sym (text_stays s q place h low)) (reads_of g) (reads_below (length s.names) g below)
 
--- behind a gate's node
+-- after a gate's node
 module _ (given : Option (List ℕ)) (g : CheckGate) (s q : GateParts) (h : GatesCame (with_gate_node given g s) q) where
-  -- the node stands behind those that stood
+  -- the node stands after those that stood
   pub nodes_split : q.parts.named.nodes ≡ s.parts.named.nodes ++ node_of_gate given g s ∷ h.added
   nodes_split = ap (λ (N : Named). N.nodes) (more_named g s q given h.added h.named)
 
-  -- at the place behind those that stood is the gate's node
+  -- at the place after those that stood is the gate's node
   pub node_here : slice_index_or q.parts.named.nodes (length s.parts.named.nodes) no_named ≡ node_of_gate given g s
   node_here =
       ap (λ (nodes : List NamedNode). slice_index_or nodes (length s.parts.named.nodes) no_named) nodes_split
@@ -86,7 +86,7 @@ module _ (word : List (List ℕ)) (given : ℕ → Option (List ℕ)) where
   nodes_rise g s =
       omega (arith, ap (λ (N : Named). length N.nodes) (node_named (given (length s.names)) g s), length-append s.parts.named.nodes (node_of_gate (given (length s.names)) g s ∷ []))
 
-  -- the gates behind a gate read in order
+  -- the gates after a gate read in order
   pub order_behind : (g : CheckGate) (gates : List CheckGate) (s : GateParts) → ReadInOrder (length word) (length s.names + 1) gates → ReadInOrder (length word) (length (with_gate word (given (length s.names)) g s).names) gates
   order_behind g gates s order = subst (λ (n : ℕ). ReadInOrder (length word) n gates) (sym (one_text word given g s)) order
 
@@ -127,7 +127,7 @@ module _ (word : List (List ℕ)) (given : ℕ → Option (List ℕ)) where
       ap (text_at q.names) e ∙ given_stands gates next i text (omega arith) other (ap given (sym e) ∙ is)
 
 module _ (p : PartsOf) (word : List (List ℕ)) (made : GateList) (rails : Option RailNames) where
-  -- each gate of a checker stands behind the nodes that stood
+  -- each gate of a checker stands after the nodes that stood
   pub checker_stands_by_name : IsOver (length word) made → (place : ℕ) → place < length made.gates
       → StandsByName (with_checker p word made rails).parts.named.nodes (length p.named.nodes) word (with_checker p word made rails).names place (slice_index_or made.gates place (gate.Word 0))
   unfolding with_checker

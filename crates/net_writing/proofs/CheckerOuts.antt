@@ -29,7 +29,7 @@ abbrev DriveGivenOrFresh : (ℕ → Option (List ℕ)) → List NamedNode → Li
 DriveGivenOrFresh given nodes old new from =
     (k : ℕ) → from ≤ k → k < length nodes → ((j : ℕ) × (given j ≡ Some (slice_index_or nodes k no_named).out)) ⊎ HasCome old new (slice_index_or nodes k no_named).out
 
--- a name that came behind some names came behind fewer of them
+-- a name that came after some names came after fewer of them
 come_later : (old middle new : List (List ℕ)) (text : List ℕ) → length old ≤ length middle → HasCome middle new text → HasCome old new text
 come_later old middle new text le h = (h.0, later h.0 h.1, h.2, h.3)
   where
@@ -54,7 +54,7 @@ module _ (given : ℕ → Option (List ℕ)) (g : CheckGate) (s q : GateParts) w
   names_rise None = omega (arith, ap length (fresh_names g s), length-append s.parts.names (next_fresh s.parts ∷ []))
   names_rise (Some text) = omega (arith, ap length (given_names text g s))
 
-  -- where the nodes behind it drive given texts or names that came, so do they all
+  -- where the nodes after it drive given texts or names that came, so do they all
   out_more : (o : Option (List ℕ)) (place : ℕ) → o ≡ given place → GatesCame (with_gate_node o g s) q
       → DriveGivenOrFresh given q.parts.named.nodes (with_gate_node o g s).parts.names q.parts.names (length (with_gate_node o g s).parts.named.nodes)
       → DriveGivenOrFresh given q.parts.named.nodes s.parts.names q.parts.names (length s.parts.named.nodes)

@@ -52,7 +52,7 @@ fed_push nodes lo word k m names text le fed new i low = elim (cases_lt i (lengt
 -- a node more, over gates whose texts are fed
 module _ (given : Option (List ℕ)) (g : CheckGate) (s q : GateParts) (h : GatesCame (with_gate_node given g s) q) (lo : ℕ) (word : List (List ℕ)) (low : lo ≤ length s.parts.named.nodes)
     (below : ReadsGatesBelow (length s.names) g) (fed : TextsAreFed q.parts.named.nodes lo word s) where
-  -- what it drives is fed behind it
+  -- what it drives is fed after it
   fed_texts : TextsAreFed q.parts.named.nodes lo word (with_gate_node given g s)
   fed_texts i there =
       let counted : length (with_gate_node given g s).parts.named.nodes ≡ length s.parts.named.nodes + 1 =
@@ -70,7 +70,7 @@ module _ (given : Option (List ℕ)) (g : CheckGate) (s q : GateParts) (h : Gate
       let place : slice_index (reads_of g) pin < length s.names = All-get_or (λ (n : ℕ). n < length s.names) (reads_of g) pin 0 within (reads_below (length s.names) g below) in
       subst (IsFedBefore q.parts.named.nodes lo word (length s.parts.named.nodes)) (sym (get_or-map (text_at s.names) (reads_of g) pin 0 [] within)) (fed (slice_index (reads_of g) pin) place)
 
-  -- where the nodes behind it read what is fed, so do they all
+  -- where the nodes after it read what is fed, so do they all
   node_fed : (TextsAreFed q.parts.named.nodes lo word (with_gate_node given g s) → ReadFedTexts q.parts.named.nodes lo word (length (with_gate_node given g s).parts.named.nodes))
       → ReadFedTexts q.parts.named.nodes lo word (length s.parts.named.nodes)
   node_fed rest k pin from within there = elim (cases_lt (length s.parts.named.nodes) k) [

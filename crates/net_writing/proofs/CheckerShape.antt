@@ -1,4 +1,4 @@
--- What the gates of a checker add to parts: nodes behind those that stood, fresh names behind those that were there, and a text for
+-- What the gates of a checker add to parts: nodes after those that stood, fresh names after those that were there, and a text for
 -- each gate.
 use Rattle.std.proofs.Common.{◌≡◌, ℕ, suc, ◌+◌, ◌<◌, ◌≤◌, List, [], ◌∷◌, ◌++◌, map, length, slice_index_or, All, Option, Some, None, refl, sym, ◌∙◌, ap, subst, arith, append_assoc, length-append}
 use Rattle.std.specs.Fn.{iterate}
@@ -53,7 +53,7 @@ pub fresh_names : (g : CheckGate) (s : GateParts) → (with_gate_node None g s).
 unfolding with_gate_node
 fresh_names g s = refl
 
--- and fresh names go on behind it
+-- and fresh names go on after it
 pub fresh_next : (g : CheckGate) (s : GateParts) → (with_gate_node None g s).parts.fresh ≡ (with_fresh s.parts).fresh
 unfolding with_gate_node
 fresh_next g s = refl
@@ -88,7 +88,7 @@ came_none s = record {
   names = sym (append-nil s.names);
 }
 
--- behind a place of the word
+-- after a place of the word
 came_word : (s q : GateParts) (text : List ℕ) → GatesCame (record { parts = s.parts; names = s.names ++ text ∷ [] }) q → GatesCame s q
 came_word s q text h = record {
   added = h.added;
@@ -103,7 +103,7 @@ came_word s q text h = record {
   names = h.names ∙ append_assoc s.names (text ∷ []) h.texts;
 }
 
--- behind another gate: its node is the first that came, and its text too
+-- after another gate: its node is the first that came, and its text too
 module _ (g : CheckGate) (s q : GateParts) where
   -- its node is the first that came
   pub more_named : (given : Option (List ℕ)) (added : List NamedNode) → q.parts.named ≡ with_nodes (with_gate_node given g s).parts.named added → q.parts.named ≡ with_nodes s.parts.named (node_of_gate given g s ∷ added)

@@ -60,7 +60,7 @@ over_at words made place g over there is =
     let at : g ≡ slice_index_or made.gates place (gate.Word 0) = is ∙ get_or_default made.gates place g (gate.Word 0) there in
     below_of place words g (λ word e. over.words_within place word there (sym at ∙ e)) (subst (ReadsGatesBelow place) (sym at) (over.ordered place there))
 
--- what a gate reads are names, also behind the name that its node drives
+-- what a gate reads are names, also after the name that its node drives
 pub reads_named : (p q : PartsOf) (given : Option (List ℕ)) (g : CheckGate) (names reads : List Name) → All (IsName p.names) names → ReadsGatesBelow (length names) g → reads ≡ map (name_at names) (reads_of g) → q ≡ with_out p given
     → All (IsName q.names) reads
 reads_named p q given g names reads all below reads_are is =

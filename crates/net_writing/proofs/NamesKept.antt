@@ -10,6 +10,7 @@ use Rattle.net_writing.specs.Names.{Keeps}
 pub keeps_not : (texts : List (List ℕ)) → Keeps texts texts
 keeps_not texts = record { longer = omega arith; kept = λ number low. refl }
 
+-- names that are kept twice are kept
 pub keeps_twice : (a b c : List (List ℕ)) → Keeps a b → Keeps b c → Keeps a c
 keeps_twice a b c one two = record {
   longer = (let l = one.longer in let m = two.longer in omega arith);
@@ -23,12 +24,15 @@ keeps_push texts text = record {
 }
 
 module _ (old new : List (List ℕ)) (keeps : Keeps old new) where
+  -- a name that was there is there still
   pub name_stays : (name : Name) → IsName old name → IsName new name
   name_stays name is = let l = keeps.longer in omega arith
 
+  -- names that were there are there still
   pub names_stay : (list : List Name) → All (IsName old) list → All (IsName new) list
   names_stay list all = names_kept old new keeps.longer keeps.kept list all
 
+  -- names that were there keep their texts
   pub texts_stay : (list : List Name) → All (IsName old) list → texts_of new list ≡ texts_of old list
   texts_stay list all = texts_kept old new keeps.longer keeps.kept list all
 

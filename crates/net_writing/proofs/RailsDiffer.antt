@@ -65,7 +65,7 @@ levels_apart (suc count) pairs some h = levels_apart count (level pairs) (level_
 pub tree_apart : (pairs : List Pair) → 0 < length pairs → ArePairsApart pairs → IsApart (tree pairs)
 tree_apart pairs some h = levels_apart (length pairs) pairs some h
 
--- pairs behind others
+-- pairs after others
 apart_append : (front back : List Pair) → ArePairsApart front → ArePairsApart back → ArePairsApart (front ++ back)
 apart_append [] back h k = k
 apart_append (p ∷ front) back h k = (h.0, apart_append front back h.1 k)
@@ -75,7 +75,7 @@ chain_no_word : (a b : Signal) (signals : List Signal) (place : ℕ) → chain_f
 chain_no_word a b [] place e = cc
 chain_no_word a b (c ∷ signals) place e = chain_no_word (Xor a b) c signals place e
 
--- the chain of a group is another signal than a place behind its own
+-- the chain of a group is another signal than a place after its own
 group_apart : (group : List ℕ) (check : ℕ) → 0 < length group → All (λ place. place < check) group → chain Xor (map Word group) ≡ Word check → ⊥
 group_apart [] check some within e = absurd (omega arith)
 group_apart (place ∷ []) check some within e =
@@ -84,7 +84,7 @@ group_apart (place ∷ []) check some within e =
     absurd (omega arith)
 group_apart (place ∷ (other ∷ group)) check some within e = chain_no_word (Word place) (Word other) (map Word group) check e
 
--- what holds of two lists behind one another holds of the first
+-- what holds of two lists, one after the other, holds of the first
 -- the pairs of groups are apart
 groups_apart : (outputs check : ℕ) (groups : List (List ℕ)) → outputs ≤ check → All (λ group. 0 < length group) groups → All (λ place. place < outputs) (concat_places groups) → ArePairsApart (group_pairs check groups)
 groups_apart outputs check [] low filled within = tt

@@ -1,4 +1,4 @@
--- A checker by names, as its gates are written into parts over the names of the places of its word: a place of the word has the
+-- A checker by names, as its gates are written into parts over the names of the places of its word. A place of the word has the
 -- word's name there, and any other gate has a node over the names of the gates that it reads. The node drives the name that is
 -- given to the gate, as to a rail, or else the next fresh one.
 use Rattle.std.specs.Prelude.{◌≡◌, ℕ, ◌<◌, ◌==◌, List, [], ◌∷◌, ◌++◌, map, length, slice_index_or, Option, None, Some, if◌then◌else◌}
@@ -34,19 +34,19 @@ abbrev pub with_out : PartsOf → Option (List ℕ) → PartsOf
 with_out p None = with_fresh p
 with_out p (Some text) = p
 
--- the node of a gate more: it has the gate's cover and reads the names of the gates at the places that the gate reads
+-- the node of one more gate: it has the gate's cover and reads the names of the gates at the places that the gate reads
 unfoldable pub with_gate_node : Option (List ℕ) → CheckGate → GateParts → GateParts
 with_gate_node given g so_far = record {
   parts = with_node (with_out so_far.parts given) (map (text_at so_far.names) (reads_of g)) (out_text so_far.parts given) (cover_of g);
   names = so_far.names ++ out_text so_far.parts given ∷ [];
 }
 
--- a gate more, over the names of the places of the word
+-- one more gate, over the names of the places of the word
 abbrev pub with_gate : List (List ℕ) → Option (List ℕ) → CheckGate → GateParts → GateParts
 with_gate word given (gate.Word place) so_far = record { parts = so_far.parts; names = so_far.names ++ text_at word place ∷ [] }
 with_gate word given g so_far = with_gate_node given g so_far
 
--- some gates more, in order; what is given to a gate goes by its place
+-- some more gates, in order; what is given to a gate goes by its place
 abbrev pub with_gates : List (List ℕ) → (ℕ → Option (List ℕ)) → List CheckGate → GateParts → GateParts
 with_gates word given [] so_far = so_far
 with_gates word given (g ∷ gates) so_far = with_gates word given gates (with_gate word (given (length so_far.names)) g so_far)

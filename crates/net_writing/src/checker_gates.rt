@@ -24,7 +24,7 @@ pub fn cover_for(alloc: Global, gate: CheckGate) -> Result<Cover, AllocError>
     }
 }
 
-/// The names of the gates that a gate reads, a pin each.
+/// The names of the gates that a gate reads, one for each pin.
 pub fn operand_names(alloc: Global, gate: CheckGate, names: &[Name]) -> Result<NameList, AllocError>
     requires reads { ReadsBelow (length names.now) gate }
     ensures names { IfOk result (λ reads. reads ≡ map (name_at names.now) (reads_of gate)) }

@@ -23,7 +23,7 @@ pub struct RailNames {
 }
 
 /// Adds a checker over the names of the places of its word, and answers the name of each of its gates. A place of the word has
-/// the word's name there. Each other gate has a node, in order, which reads the names of the gates that the gate reads; it drives
+/// the word's name there. Each other gate has a node, in order, which reads the names of the gates that the gate reads. It drives
 /// the rail's name where it is a rail and names are given for them, and else the next fresh one.
 ///
 /// # Errors

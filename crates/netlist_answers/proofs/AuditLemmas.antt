@@ -36,6 +36,7 @@ refused_lines format text lines given are sound refused =
     let P : List TextLine → Type 0 = λ l. IsRefusedBy (first_of (byte_refusal (bad_line text)) (audit_lines_refusal format l)) given in
     subst P are (refused_later (byte_refusal (bad_line text)) (audit_lines_refusal format lines) given (ap byte_refusal sound) refused)
 
+-- where nothing refuses the bytes of a text or its lines, an audit of the text is not refused
 pub allowed_lines : (format : SourceFormat) (text : List ℕ) (lines : List TextLine) → lines ≡ lines_of text → bad_line text ≡ None
     → audit_lines_refusal format lines ≡ None → audit_refusal format text ≡ None
 allowed_lines format text lines are sound allowed =
@@ -50,6 +51,7 @@ refused_behind format lines at M given is_at is_source none refused =
     let Q : Logic → Type 0 = λ m. IsRefusedBy (first_of (source_refusal format lines) (audit_behind_refusal lines (behind_source format lines) m)) given in
     subst Q is_source (subst P is_at (refused_later (source_refusal format lines) (audit_behind_refusal lines at M) given none refused))
 
+-- where nothing refuses the source or what stands after it, an audit of the lines is not refused
 pub allowed_behind : (format : SourceFormat) (lines : List TextLine) (at : ℕ) (M : Logic) → at ≡ behind_source format lines → M ≡ source_of format lines
     → source_refusal format lines ≡ None → audit_behind_refusal lines at M ≡ None → audit_lines_refusal format lines ≡ None
 allowed_behind format lines at M is_at is_source none allowed =

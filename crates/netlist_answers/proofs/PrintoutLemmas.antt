@@ -6,6 +6,7 @@ use Rattle.buffered_sink.specs.Output.{Output, IsPrinted, IsCut, Prints}
 use Rattle.buffered_sink.proofs.PrintLemmas.{IsPrinted-then, IsCut-then}
 use Rattle.netlist_answers.specs.Devices.{Gains, GainsPrefix, SinkCall, sink_call}
 
+-- the call of the sink between two states of a page: what was written, and what failed, before and after
 abbrev pub call_of : Output → Output → SinkCall
 call_of before after = sink_call before.written after.written before.faults after.faults
 

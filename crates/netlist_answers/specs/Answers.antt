@@ -32,7 +32,7 @@ pub record IsVectorList (text answer : List ℕ) : Type 0 where
   pub right : AreTests (netlist_in text).circuit (plan_in text) tests
   pub listed : answer ≡ vector_list (netlist_in text) tests
 
--- the answer is the run of the netlist that the first section of the lines denotes, over the step lines behind it
+-- the answer is the run of the netlist that the first section of the lines denotes, over the step lines after it
 abbrev pub IsSimulation : SimFault → List TextLine → List ℕ → Type 0
 IsSimulation fault lines answer = IsRunOf fault (first_net lines) (first_plan lines) (lines_behind lines) answer
 
@@ -55,12 +55,12 @@ abbrev pub IsVerdictReplyOf : Ending → Logic → NetlistOf → CodePlan → Li
 IsVerdictReplyOf Finished M net plan answer = IsAcceptanceOf M net plan answer
 IsVerdictReplyOf Rejected M net plan answer = IsRejectionOf M net plan answer
 
--- the answer of an audit of lines: of the source that they begin with, and the netlist and the plan behind it
+-- the answer of an audit of lines: of the source that they begin with, and the netlist and the plan after it
 abbrev pub IsLinesReply : Ending → SourceFormat → List TextLine → List ℕ → Type 0
 IsLinesReply ending format lines answer =
     IsVerdictReplyOf ending (source_of format lines) (net_from lines (behind_source format lines)) (plan_from lines (behind_source format lines)) answer
 
--- the verdict on the netlist and the plan behind the source of a text is yes, and the answer says so
+-- the verdict on the netlist and the plan after the source of a text is yes, and the answer says so
 abbrev pub IsAcceptance : SourceFormat → List ℕ → List ℕ → Type 0
 IsAcceptance format text answer = IsAcceptanceOf (source_in format text) (second_netlist_in format text) (second_plan_in format text) answer
 

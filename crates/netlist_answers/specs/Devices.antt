@@ -26,11 +26,12 @@ pub record Devices : Type 0 where
   pub sink : SinkCall
   pub notes : SinkCall
 
--- a source from before to after; a sink likewise
+-- a source from before to after
 abbrev pub source_call : Option (List ℕ) → Option (List ℕ) → ℕ → ℕ → ℕ → ℕ → SourceCall
 source_call left left_after faults faults_after calls calls_after =
     record { left = left; left_after = left_after; faults = faults; faults_after = faults_after; calls = calls; calls_after = calls_after }
 
+-- a sink from before to after
 abbrev pub sink_call : Option (List ℕ) → Option (List ℕ) → ℕ → ℕ → SinkCall
 sink_call written written_after faults faults_after =
     record { written = written; written_after = written_after; faults = faults; faults_after = faults_after }

@@ -1,4 +1,4 @@
--- The fault list: a line a listed fault of a netlist, and their number.
+-- The fault list: one line per listed fault of a netlist, and their number.
 use Rattle.std.specs.Prelude.{ℕ, zero, suc, ◌+◌, Bool, List, [], ◌∷◌, ◌++◌, codes, length}
 use Rattle.std.specs.Fmt.{decimal}
 use Rattle.std.specs.List.{flat_map}

@@ -46,11 +46,11 @@ shape_refusal (Some line) = Some (StepShape line)
 abbrev pub run_refusal : SimFault → NetlistOf → List TextLine → Option Refusal
 run_refusal fault net steps = first_of (place_refusal (is_place_listed net fault)) (shape_refusal (first_misshapen net.circuit.inputs steps))
 
--- the lines of a text as a netlist with step lines behind it: the netlist, then the run
+-- the lines of a text as a netlist with step lines after it: the netlist, then the run
 abbrev pub sim_lines_refusal : SimFault → List TextLine → Option Refusal
 sim_lines_refusal fault lines = first_of (first_refusal Netlist lines) (run_refusal fault (first_net lines) (lines_behind lines))
 
--- a text as a netlist with step lines behind it: its bytes, then its lines
+-- a text as a netlist with step lines after it: its bytes, then its lines
 abbrev pub sim_refusal : SimFault → List ℕ → Option Refusal
 sim_refusal fault text = first_of (byte_refusal (bad_line text)) (sim_lines_refusal fault (lines_of text))
 
@@ -67,7 +67,7 @@ audit_points_refusal false = None
 abbrev pub audit_behind_refusal : List TextLine → ℕ → Logic → Option Refusal
 audit_behind_refusal lines from M = first_of (netlist_refusal lines from) (audit_points_refusal (has_too_many_audit_points M))
 
--- lines that are audited: the source, then the netlist behind it
+-- lines that are audited: the source, then the netlist after it
 abbrev pub audit_lines_refusal : SourceFormat → List TextLine → Option Refusal
 audit_lines_refusal format lines =
     first_of (source_refusal format lines) (audit_behind_refusal lines (behind_source format lines) (source_of format lines))

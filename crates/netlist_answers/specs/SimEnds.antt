@@ -23,7 +23,7 @@ EndsWith answers refusal (Err given) before after = IsRefusedBy refusal given ×
 abbrev pub RunEnds : {T : Type 0} → SimFault → NetlistOf → CodePlan → List TextLine → Result T Refusal → Output → Output → Type 0
 RunEnds fault net plan steps result before after = EndsWith (IsRunOf fault net plan steps) (run_refusal fault net steps) result before after
 
--- that of the netlist that lines begin with, over the step lines behind it; and of the lines of a text
+-- that of the netlist that lines begin with, over the step lines after it; and of the lines of a text
 abbrev pub SimulationEnds : {T : Type 0} → SimFault → List TextLine → Result T Refusal → Output → Output → Type 0
 SimulationEnds fault lines result before after = EndsWith (IsSimulation fault lines) (sim_lines_refusal fault lines) result before after
 

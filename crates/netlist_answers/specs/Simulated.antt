@@ -24,6 +24,7 @@ abbrev pub is_some_listed : Circuit → Option StuckAt → Bool
 is_some_listed N None = false
 is_some_listed N (Some stuck) = is_none_or_listed N stuck
 
+-- no fault is named, or one on the netlist's list; a fault at a name that is no net's is not on it
 abbrev pub is_place_listed : NetlistOf → SimFault → Bool
 is_place_listed net fault = is_some_listed net.circuit (place_of net fault)
 

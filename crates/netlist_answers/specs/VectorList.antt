@@ -1,4 +1,4 @@
--- The list of test vectors: a line a listed fault of a netlist, how many of the faults are testable, and whether all are.
+-- The list of test vectors: one line per listed fault of a netlist, how many of the faults are testable, and whether all are.
 use Rattle.std.specs.Prelude.{ℕ, ◌-◌, ◌==◌, if◌then◌else◌, List, [], ◌∷◌, ◌++◌, codes, length, count_by, Option, None, Some}
 use Rattle.std.specs.Fmt.{decimal}
 use Rattle.std.specs.Option.{is_some}
@@ -29,10 +29,11 @@ vector_lines net [] tests = []
 vector_lines net (fault ∷ faults) [] = []
 vector_lines net (fault ∷ faults) (test ∷ tests) = vector_line net fault test ++ vector_lines net faults tests
 
--- how many faults have an exposing point, and how many have none
+-- how many faults have an exposing point
 abbrev pub testable : List (Option Point) → ℕ
 testable tests = count_by is_some tests
 
+-- how many faults have no exposing point
 abbrev pub untestable : List (Option Point) → ℕ
 untestable tests = length tests - testable tests
 

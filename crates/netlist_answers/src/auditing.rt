@@ -1,4 +1,4 @@
-//! The audit of a text: of the netlist behind a source.
+//! The audit of a text: of the netlist after a source.
 ghost use Rattle.std.specs.Prelude.{◌≡◌, ◌≤◌, None, length, IfErr, IfOk, OnOk};
 ghost use Rattle.audit.specs.Laws.{IsSecureWhereYes};
 ghost use Rattle.audit.specs.Shown.{IsShownIn};
@@ -39,7 +39,7 @@ pub enum AuditSource {
     Loose(Loose),
 }
 
-/// The audit of the netlist behind the source of this format that `text` begins with.
+/// The audit of the netlist after the source of this format that `text` begins with.
 ///
 /// # Errors
 ///
@@ -54,7 +54,7 @@ pub fn audit_text(alloc: Global, format: SourceFormat, text: &Bytes) -> Result<R
     audit_lines(alloc, format, &lines)
 }
 
-/// The audit of the netlist behind the source of this format that the lines begin with.
+/// The audit of the netlist after the source of this format that the lines begin with.
 fn audit_lines(alloc: Global, format: SourceFormat, lines: &Lines) -> Result<Reply, Refusal>
     ensures answers { IfOk result (λ reply. IsLinesReply reply.ending format lines.now reply.bytes) }
     ensures allowed { OnOk result (audit_lines_refusal format lines.now ≡ None) }
@@ -129,7 +129,7 @@ pub fn audit_source(
     }
 }
 
-/// The place behind the source of this format that the lines begin with.
+/// The place after the source of this format that the lines begin with.
 pub fn behind_source(format: SourceFormat, lines: &Lines) -> usize
     ensures behind { result ≡ behind_source format lines.now }
     ensures within { result ≤ length lines.now }

@@ -25,7 +25,7 @@ pub fn print_fault_list<K: Sink>(
     print_total(sink, page, net)
 }
 
-/// Prints a line a fault.
+/// Prints one line per fault.
 fn print_faults<K: Sink>(sink: &mut K, page: &mut Page, net: &Netlist) -> Result<(), WriteFault>
     ensures printed { Prints result (output (K.written sink.old) (K.faults sink.old) page.old) (output (K.written sink.new) (K.faults sink.new) page.new) (flat_map (fault_line net.now.names) (listed_faults net.now.circuit)) }
 {

@@ -33,7 +33,7 @@ pub fn print_vector_list<K: Sink>(
     print_last(sink, page, &tested.tests)
 }
 
-/// Prints a line a fault.
+/// Prints one line per fault.
 fn print_vectors<K: Sink>(
     sink: &mut K,
     page: &mut Page,

@@ -87,7 +87,7 @@ pub fn shape_text(shape: Shape) -> &'static [u8]
     }
 }
 
-/// Appends a reason, and a net behind a blank.
+/// Appends a reason, and a net after a blank.
 ///
 /// # Errors
 ///
@@ -100,7 +100,7 @@ pub fn push_told(out: &mut Bytes, reason: &[u8], net: &Netlist, at: NetId) -> Re
     push_net(out, net, at)
 }
 
-/// Appends a reason, a net and a pin, each behind a blank.
+/// Appends a reason, a net and a pin, each after a blank.
 fn push_pin(
     out: &mut Bytes,
     reason: &[u8],
@@ -136,7 +136,7 @@ fn push_shares(
     push_net(out, net, node)
 }
 
-/// Appends a reason, a state and an input, each behind a blank.
+/// Appends a reason, a state and an input, each after a blank.
 ///
 /// # Errors
 ///
@@ -156,7 +156,7 @@ pub fn push_point(
     push_bits(out, input, net.inputs())
 }
 
-/// Appends the name of a net behind a blank.
+/// Appends the name of a net after a blank.
 fn push_net(out: &mut Bytes, net: &Netlist, at: NetId) -> Result<(), AllocError>
     requires known { at.number < nets net.now.circuit }
     ensures word { OnOk result (out.new ≡ out.old ++ net_word net.now at) }
@@ -165,7 +165,7 @@ fn push_net(out: &mut Bytes, net: &Netlist, at: NetId) -> Result<(), AllocError>
     out.append(net.name(at))
 }
 
-/// Appends a number behind a blank.
+/// Appends a number after a blank.
 ///
 /// # Errors
 ///

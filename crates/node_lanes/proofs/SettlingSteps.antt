@@ -60,11 +60,13 @@ pub node_lane : (N : Circuit) (place p net word : ℕ) (words : List ℕ) → ne
     → column p (set words net word) ≡ set (column p words) (node_net N place) (node_value N NoFault (column p words) place)
 node_lane N place p net word words at is = map-set (bit_worth p) words net word ∙ ap₂ (set (column p words)) at is
 
+-- putting bits at nets keeps the number of bits
 pub length-with_bits : (v : List Bool) (nets : List ℕ) (bits : List Bool) → length (with_bits v nets bits) ≡ length v
 length-with_bits v [] bits = refl
 length-with_bits v (n ∷ nets) [] = refl
 length-with_bits v (n ∷ nets) (b ∷ bits) = length-with_bits (set v n b) nets bits ∙ length-set v n b
 
+-- setting nodes keeps the number of bits
 pub length-settled : (N : Circuit) (places : List ℕ) (v : List Bool) → length (settled N places v) ≡ length v
 length-settled N [] v = refl
 length-settled N (q ∷ places) v =
@@ -75,6 +77,7 @@ pub put_length : (old put distinct : List ℕ) (bits : ℕ → List Bool) → ((
 put_length old put distinct bits puts =
     sym (length-map put (bit_worth 0)) ∙ ap length (puts 0 (omega arith)) ∙ length-with_bits (column 0 old) distinct (bits 0) ∙ length-map old (bit_worth 0)
 
+-- words in which nodes were set, at each of 64 points, are as many as before
 pub settled_length : (N : Circuit) (old now places : List ℕ) → ((p : ℕ) → p < 64 → column p now ≡ settled N places (column p old)) → length now ≡ length old
 settled_length N old now places settles =
     sym (length-map now (bit_worth 0)) ∙ ap length (settles 0 (omega arith)) ∙ length-settled N places (column 0 old) ∙ length-map old (bit_worth 0)

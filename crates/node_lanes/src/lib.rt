@@ -1,4 +1,4 @@
-//! What nodes make of the bits of nets at 64 points at once: a word a net, whose bit p is the net's bit at point p.
+//! What nodes make of the bits of nets at 64 points at once: one word per net, whose bit p is the net's bit at point p.
 //! Its main call is `settle_words`, which sets the nets of some nodes, one after another.
 //! It stands on `lane_sim` (words of bits), `code_lanes` (the bits of words at a point), `tsc_net` (netlists), `tsc_cover` and `tsc_bits` (covers and bits).
 //! Its main promise: at each point a node's net has what its cover makes of the bits of the nets that it reads.

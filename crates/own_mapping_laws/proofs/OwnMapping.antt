@@ -89,12 +89,14 @@ module _ (answer : List ℕ) (readable : text_refusal Netlist answer ≡ None) (
   abbrev lines : List TextLine
   lines = lines_of answer
 
+  -- it has no line with a bad byte
   pub bytes : bad_line answer ≡ None
   bytes = bytes_allowed (bad_line answer) (none_first (byte_refusal (bad_line answer)) (lines_refusal Netlist lines) readable)
 
   all_allowed : lines_refusal Netlist lines ≡ None
   all_allowed = none_later (byte_refusal (bad_line answer)) (lines_refusal Netlist lines) readable
 
+  -- nothing refuses its first section as a netlist with its plan
   pub section : refusal Netlist (first_lines lines) ≡ None
   section = section_allowed Netlist lines 0 all_allowed
 
@@ -110,6 +112,7 @@ module _ (answer : List ℕ) (readable : text_refusal Netlist answer ≡ None) (
   laid : lines ≡ all_lines N P
   laid = ap lines_of written ∙ read.lines
 
+  -- its first section takes all its lines
   pub whole : length lines ≤ (first_section lines).next
   whole =
       let IsWhole : List TextLine → Type 0 = λ ls. length ls ≤ (first_section ls).next in
@@ -124,6 +127,7 @@ module _ (answer : List ℕ) (readable : text_refusal Netlist answer ≡ None) (
   abbrev first_line : WrittenLine
   first_line = model_line (named_of N).model
 
+  -- its first section has an end line
   pub ended : (section_of lines 0 BlifEnd).past < length lines
   ended =
       let IsEnded : List TextLine → Type 0 = λ ls. (section_of ls 0 BlifEnd).past < length ls in
@@ -132,9 +136,11 @@ module _ (answer : List ℕ) (readable : text_refusal Netlist answer ≡ None) (
 
   -- ---- another text behind it
 
+  -- how many numbers further on the lines of a text after it begin
   abbrev pub more : ℕ
   more = length (physical_lines (ended_body first_line later_lines))
 
+  -- the lines of it and of another text are its own, and those of the other one by later numbers
   pub behind_it : (rest : List ℕ) → lines_of (answer ++ rest) ≡ lines ++ moved more (lines_of rest)
   behind_it rest = lines_in_a_row (ended_body first_line later_lines) answer rest (written ∙ body_fed first_line later_lines) (body_complete first_line later_lines)
 

@@ -111,6 +111,7 @@ joined-filled shares (group ∷ groups) o all = choose (joined-filled shares gro
     choose deeper true = All-cons (λ group. 0 < length group) group (joined shares groups o) head deeper
     choose deeper false = All-cons (λ group. 0 < length group) (group ++ o ∷ []) groups more tail
 
+-- no group of the first fit is empty
 pub first_fit-filled : (shares : ℕ → ℕ → Bool) (outputs : ℕ) → All (λ group. 0 < length group) (first_fit shares outputs)
 first_fit-filled shares zero = All-nil (λ group. 0 < length group)
 first_fit-filled shares (suc outputs) = joined-filled shares (first_fit shares outputs) outputs (first_fit-filled shares outputs)
@@ -172,6 +173,7 @@ joined-within P shares (group ∷ groups) o all here = choose (joined-within P s
     choose deeper true = All-append P group (concat_places (joined shares groups o)) head deeper
     choose deeper false = All-append P (group ++ o ∷ []) (concat_places groups) (All-append P group (o ∷ []) head (All-cons P o [] here (All-nil P))) tail
 
+-- the first fit of so many outputs has only places below their number, and below each larger one
 pub first_fit-within : (shares : ℕ → ℕ → Bool) (outputs more : ℕ) → outputs ≤ more → All (λ place. place < more) (concat_places (first_fit shares outputs))
 first_fit-within shares zero more up = All-nil (λ place. place < more)
 first_fit-within shares (suc outputs) more up =

@@ -123,6 +123,7 @@ module _ (C N : Circuit) (P : CodePlan) (top : ℕ) (f : IsForetoldFunction C N 
             (subst (λ x. SharesNode N P x (P.outputs + group)) at_a (subst (SharesNode N P (slice_index (G ++ (P.outputs + group) ∷ []) a)) at_b shares)))
       ]
 
+  -- where the groups have only places of outputs, the netlist has disjoint cones under the plan
   pub disjoint_cones : All (λ place. place < P.outputs) (concat_places P.groups) → HasDisjointCones N P
   disjoint_cones within = record { no_latch = f.own.latchless.1; disjoint = each }
     where

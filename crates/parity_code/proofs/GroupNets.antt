@@ -10,9 +10,11 @@ use Rattle.net_cones.proofs.ConeNets.{numbers_below}
 use Rattle.net_cones.specs.Cones.{IsCone}
 use Rattle.net_cones.specs.ConeMarks.{cone_of}
 
+-- a result that, if it is there, is a cone of some roots is so for equal roots too
 pub same_roots : {E : Type 0} (C : Circuit) (roots others : List ℕ) (r : Result (List ℕ) E) → roots ≡ others → IfOk r (IsCone C roots) → IfOk r (IsCone C others)
 same_roots C roots others r is here = subst (λ roots. IfOk r (IsCone C roots)) is here
 
+-- a result that, if it is there, is the computed cone of some roots is so for equal roots too
 pub same_cone : {E : Type 0} (C : Circuit) (roots others : List ℕ) (r : Result (List ℕ) E) → roots ≡ others → IfOk r (λ places. places ≡ cone_of C roots) → IfOk r (λ places. places ≡ cone_of C others)
 same_cone C roots others r is here = subst (λ roots. IfOk r (λ places. places ≡ cone_of C roots)) is here
 

@@ -113,7 +113,7 @@ module _ (C N : Circuit) (net : ℕ → ℕ) (nets : (j : ℕ) → node_net N j 
         length-append group (concat_places groups),
       )
 
-  -- the first check stands, and the others behind it
+  -- the first check stands, and the others after it
   first_stands : (group : List ℕ) (groups : List (List ℕ)) (from : ℕ) → StandAt N from (group_checks C net (group ∷ groups) from) → StandAt N from (parity_nodes C.inputs from (map net (outputs_at C group)))
   first_stands group groups from stand = stand_left N from (parity_nodes C.inputs from (map net (outputs_at C group))) (group_checks C net groups (from + length group)) stand
 

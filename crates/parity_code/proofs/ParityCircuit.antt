@@ -43,9 +43,11 @@ place_in-rising (p ∷ places) rising (suc k) within =
     let test : (p == slice_index places k) ≡ false = grind (arith, common_steps) in
     ap (λ b. if b then 0 else suc (place_in places (slice_index places k))) test ∙ ap suc rest
 
+-- in a copy an input stands for itself
 pub copy_net-input : (C : Circuit) (places : List ℕ) (base n : ℕ) → n < C.inputs → copy_net C places base n ≡ n
 copy_net-input C places base n input = grind (arith, common_steps)
 
+-- in a copy from place base on, a node's net is that of its place among the copied nodes
 pub copy_net-node : (C : Circuit) (places : List ℕ) (base n : ℕ) → C.inputs ≤ n → copy_net C places base n ≡ C.inputs + (base + place_in places (n - C.inputs))
 copy_net-node C places base n over = grind (arith, common_steps)
 
@@ -102,6 +104,7 @@ module _ (C N : Circuit) (latchless : (length C.latches ≡ 0) × (length N.latc
     copied_count : length (copied_nodes C places base) ≡ length places
     copied_count = length-map places (λ place. renamed (copy_net C places base) (node C place))
 
+    -- where the copied nodes of a cone stand from place base on, they are a copy of it
     pub cone_copy : IsCopy C N places base (copy_net C places base)
     cone_copy = record {
       latchless = latchless;
@@ -147,6 +150,7 @@ chain_stands N inputs nets from made (n ∷ ns) stand =
     let rest : IsChain N (suc from) (inputs + from) ns (chain_end inputs (suc from) (inputs + from) ns) = chain_stands N inputs nets (suc from) (inputs + from) ns behind in
     (here, subst (λ made. IsChain N (suc from) made ns (chain_end inputs (suc from) (inputs + from) ns)) (sym (nets from)) rest)
 
+-- the predictor of a group that isn't empty has one node for each node of the cone and for each output
 pub length-predictor_nodes : (C : Circuit) (cone group : List ℕ) (base : ℕ) → 0 < length group → length (predictor_nodes C cone group base) ≡ length cone + length group
 length-predictor_nodes C cone [] base filled = absurd (omega arith)
 length-predictor_nodes C cone (p ∷ ps) base filled =

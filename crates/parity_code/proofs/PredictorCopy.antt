@@ -28,6 +28,7 @@ copy_text-over : (S : NetlistOf) (cone : List ℕ) (p : PartsOf) (n : ℕ) → S
 unfolding copy_text
 copy_text-over S cone p n over = grind (arith, common_steps)
 
+-- in a copy the node at the k-th place of a cone has the fresh name that comes after k others
 pub copy_text-node : (S : NetlistOf) (cone : List ℕ) (p : PartsOf) (k : ℕ) → length S.circuit.latches ≡ 0 → Rise cone → k < length cone
     → copy_text S cone p (node_net S.circuit (slice_index cone k)) ≡ fresh_after p k
 copy_text-node S cone p k none rise within =
@@ -113,6 +114,7 @@ module _ (S : NetlistOf) (roots cone : List ℕ) (p q : PartsOf) (names : List N
       = (copy.texts (node_net S.circuit (slice_index cone k)) (inr (k, there, refl))).1 in
       cc
 
+  -- the nodes of the cone, with the texts of these names, are those of the copy
   pub copies_named : map (node_by S.circuit (λ n. text_of q.names (name_at names n))) cone ≡ map (node_by S.circuit (copy_text S cone p)) cone
   copies_named =
       map_agrees (λ place. node_by S.circuit (λ n. text_of q.names (name_at names n)) place ≡ node_by S.circuit (copy_text S cone p) place)

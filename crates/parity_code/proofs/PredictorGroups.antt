@@ -84,6 +84,7 @@ parity_count : (p : PartsOf) (names : List (List ℕ)) → length (with_parity p
 parity_count p [] = omega arith
 parity_count p (first ∷ rest) = omega (arith, check_count p first rest)
 
+-- the predictor of a group adds one name for each node of its outputs' cone, and one for each output
 pub predictor_count : (S : NetlistOf) (group : List ℕ) (p : PartsOf)
     → length (with_predictor S group p).names ≡ length p.names + (length (cone_of S.circuit (outputs_at S.circuit group)) + length group)
 unfolding with_predictor with_copies

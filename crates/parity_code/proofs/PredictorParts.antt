@@ -30,6 +30,7 @@ grows_not p = record {
 pub grows_same : (p q : PartsOf) → q ≡ p → PartsGrow p q
 grows_same p q e = subst (PartsGrow p) (sym e) (grows_not p)
 
+-- parts that grew twice have grown
 pub grows_twice : (a b c : PartsOf) → PartsGrow a b → PartsGrow b c → PartsGrow a c
 grows_twice a b c one two = record {
   added = one.added ++ two.added;
@@ -87,12 +88,15 @@ written_back new old count counted same =
 pub names_longer : (p q : PartsOf) → PartsGrow p q → length p.names ≤ length q.names
 names_longer p q g = omega (arith, ap length g.names, length-append p.names g.more)
 
+-- a name that was there keeps its text
 pub text_kept : (p q : PartsOf) (number : ℕ) → PartsGrow p q → number < length p.names → text_at q.names number ≡ text_at p.names number
 text_kept p q number g there = ap (λ l. text_at l number) g.names ∙ get_or_append_left p.names g.more [] number there
 
+-- names that were there are there still
 pub names_stay : (p q : PartsOf) (list : List Name) → PartsGrow p q → All (IsName p.names) list → All (IsName q.names) list
 names_stay p q list g all = All-weaker (IsName p.names) (IsName q.names) (λ n h. omega (arith, names_longer p q g)) list all
 
+-- names that were there keep their texts
 pub texts_stay : (p q : PartsOf) (list : List Name) → PartsGrow p q → All (IsName p.names) list → texts_of q.names list ≡ texts_of p.names list
 texts_stay p q list g all = map_agrees (IsName p.names) (text_of q.names) (text_of p.names) (λ n h. text_kept p q n.number g h) list all
 
@@ -101,12 +105,14 @@ pub fresh_names_grow : (count : ℕ) (p : PartsOf) → PartsGrow p (with_fresh_n
 fresh_names_grow zero p = grows_not p
 fresh_names_grow (suc count) p = grows_twice p (with_fresh_names count p) (with_fresh (with_fresh_names count p)) (fresh_names_grow count p) (fresh_grows (with_fresh_names count p))
 
+-- with so many fresh names there are so many names more
 pub fresh_names_count : (count : ℕ) (p : PartsOf) → length (with_fresh_names count p).names ≡ length p.names + count
 fresh_names_count zero p = omega arith
 fresh_names_count (suc count) p =
     let q : PartsOf = with_fresh_names count p in
     omega (arith, fresh_names_count count p, length-append q.names (next_fresh q ∷ []))
 
+-- fresh names leave what is named as it was
 pub fresh_names_named : (count : ℕ) (p : PartsOf) → (with_fresh_names count p).named ≡ p.named
 fresh_names_named zero p = refl
 fresh_names_named (suc count) p = fresh_names_named count p

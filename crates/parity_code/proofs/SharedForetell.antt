@@ -70,7 +70,7 @@ module _ (C N : Circuit) (latchless : (length C.latches ≡ 0) × (length N.latc
       All-weaker (λ group. All (IsCopied C places) (outputs_at C group)) (λ group. All (Inside N base lo) (map net (outputs_at C group)))
       (λ group all. All-map (Inside N base lo) net (outputs_at C group) (All-weaker (IsCopied C places) (λ n. Inside N base lo (net n)) copied_inside (outputs_at C group) all)) groups copied
 
-  -- each node behind the copy reads before its own net
+  -- each node after the copy reads before its own net
   reads_inside : (j pin : ℕ) → lo ≤ j → j < top → pin < length (node N j).reads → Inside N base j (pin_net N j pin)
   reads_inside j pin low high has = checks_read C N net net_is base lo (omega arith) groups lo (omega arith) outputs_inside checks_stand j pin low high has
 
@@ -113,6 +113,7 @@ module _ (C N : Circuit) (latchless : (length C.latches ≡ 0) × (length N.latc
       (all_alike C places net u v (copied-alike C N places base net x s u v rank copy ranks source copies) (outputs_at C (slice_index_or groups i []))
       (All-get_or (λ group. All (IsCopied C places) (outputs_at C group)) groups i [] there copied))
 
+  -- one copy, and the groups' checks over it, foretell the parity of each group
   pub shared_foretell : Foretells C N groups (group_check_nets C.inputs groups (base + length places)) base (base + length places + length (concat_places groups))
   shared_foretell = record {
     ordered = omega arith;

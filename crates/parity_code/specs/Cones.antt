@@ -1,4 +1,4 @@
--- The cones of some nets, one a net.
+-- The cones of some nets, one for each net.
 use Rattle.std.specs.Prelude.{◌≡◌, ℕ, ◌<◌, Bool, List, [], ◌∷◌, length, slice_index}
 use Rattle.fault_secure.specs.Circuit.{Circuit}
 use Rattle.net_cones.specs.Cones.{MarksCone}

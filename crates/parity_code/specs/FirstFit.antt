@@ -6,7 +6,7 @@ use Rattle.fault_secure.specs.Circuit.{Circuit}
 use Rattle.net_cones.specs.Cones.{MarksCone}
 use Rattle.net_cones.specs.ConeMarks.{cone_marks}
 
--- the groups with one output more: in the first group with no member that shares with it, else in a group of its own
+-- the groups with one more output: in the first group with no member that shares with it, else in a group of its own
 abbrev pub joined : (ℕ → ℕ → Bool) → List (List ℕ) → ℕ → List (List ℕ)
 joined shares [] o = (o ∷ []) ∷ []
 joined shares (group ∷ groups) o =
@@ -21,6 +21,7 @@ first_fit shares (suc outputs) = joined shares (first_fit shares outputs) output
 abbrev pub marks_of : List (List Bool) → ℕ → List Bool
 marks_of cones o = slice_index_or cones o []
 
+-- some place is marked for both outputs
 abbrev pub share : List (List Bool) → ℕ → ℕ → Bool
 share cones a b = some_both (marks_of cones a) (marks_of cones b)
 

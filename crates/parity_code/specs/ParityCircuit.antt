@@ -12,10 +12,11 @@ abbrev pub place_in : List ℕ → ℕ → ℕ
 place_in [] place = 0
 place_in (other ∷ places) place = if other == place then 0 else suc (place_in places place)
 
--- the net of a net of C in the copy of the nodes at `places`; an input stands for itself
+-- the net that stands for a net of C in the copy of the nodes at `places`; an input stands for itself
 abbrev pub copy_net : Circuit → List ℕ → ℕ → ℕ → ℕ
 copy_net C places base net = if nat_lt net C.inputs then net else C.inputs + (base + place_in places (net - C.inputs))
 
+-- the copy of the nodes at `places`, from node place `base` on
 abbrev pub copied_nodes : Circuit → List ℕ → ℕ → List NodeOf
 copied_nodes C places base = map (λ place. renamed (copy_net C places base) (node C place)) places
 
@@ -24,6 +25,7 @@ abbrev pub chain_nodes : ℕ → ℕ → ℕ → List ℕ → List NodeOf
 chain_nodes inputs from made [] = []
 chain_nodes inputs from made (net ∷ nets) = gate xor_cover (made ∷ (net ∷ [])) ∷ chain_nodes inputs (suc from) (inputs + from) nets
 
+-- the net at the end of a chain of exclusive ors over nets, from node place `from` on
 abbrev pub chain_end : ℕ → ℕ → ℕ → List ℕ → ℕ
 chain_end inputs from made [] = made
 chain_end inputs from made (net ∷ nets) = chain_end inputs (suc from) (inputs + from) nets
@@ -44,6 +46,7 @@ pub record GroupCone : Type 0 where
   pub group : List ℕ
   pub cone : List ℕ
 
+-- how many nodes the predictor of a group has
 abbrev pub size_of : GroupCone → ℕ
 size_of g = length g.cone + length g.group
 

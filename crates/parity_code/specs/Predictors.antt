@@ -12,7 +12,7 @@ use Rattle.net_cones.specs.ConeMarks.{cone_of}
 use Rattle.parity_code.specs.ParityFunction.{outputs_at}
 use Rattle.parity_code.specs.ParityCircuit.{place_in}
 
--- the parts with so many fresh names more, and the fresh name that comes after so many
+-- the parts with so many more fresh names, and the fresh name that comes after so many
 abbrev pub with_fresh_names : ℕ → PartsOf → PartsOf
 with_fresh_names zero p = p
 with_fresh_names (suc count) p = with_fresh (with_fresh_names count p)

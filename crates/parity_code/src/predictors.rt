@@ -16,7 +16,7 @@ use tsc_cover::{Cover, not_cover, xor_cover};
 use tsc_io::Items;
 use tsc_net::{Name, NameList, Netlist, Parts};
 
-/// Adds a predictor for each group of outputs of `net`, and answers the names of their checks, in order of groups: a copy, in
+/// Adds a predictor for each group of outputs of `net`, and answers the names of their checks, in order of groups. A predictor is a copy, in
 /// source order, of each cover that some output of the group depends on, then the chain of exclusive ors over the copies of
 /// the outputs, and then the check, its negation. Each node has a fresh name. The parts have the inputs of `net` first.
 ///

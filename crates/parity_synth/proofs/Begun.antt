@@ -77,6 +77,7 @@ module _ (S : NetlistOf) (checked : IsBuilt S) (kept : List ℕ) (is : IsCone S.
             out = own_name (node_net S.circuit (slice_index kept k)) (omega arith);
           }
 
+  -- in the parts that were begun each node of the source that is kept can be written under its names
   pub own_nameable : (p : PartsOf) → p ≡ begun_to S (nets S.circuit) → All (IsNameable S.circuit p.names names) kept
   own_nameable p begun = subst (λ (r : PartsOf). All (IsNameable S.circuit r.names names) kept) (sym begun) own_nameable_there
 
@@ -89,6 +90,7 @@ module _ (S : NetlistOf) (checked : IsBuilt S) (kept : List ℕ) (is : IsCone S.
       = own_text (node_net S.circuit place) (omega arith) in
       cc
 
+  -- with these nodes the parts still have one name for each net of the source
   pub own_names_count : (p q : PartsOf) → p ≡ begun_to S (nets S.circuit) → q ≡ with_nodes p (map (node_by S.circuit (λ n. text_of p.names (name_at names n))) kept)
       → length q.names ≡ nets S.circuit
   own_names_count p q begun added = ap (λ (r : PartsOf). length r.names) added ∙ ap (λ (r : PartsOf). length r.names) begun ∙ own_count
@@ -101,7 +103,7 @@ module _ (S : NetlistOf) (checked : IsBuilt S) (kept : List ℕ) (is : IsCone S.
       (map_agrees (λ place. place < length S.circuit.nodes) (node_by S.circuit (λ n. text_of (take (nets S.circuit) S.names) (name_at names n))) (node_by S.circuit (text_at S.names)) same_node kept
       (All-from_get_or (λ place. place < length S.circuit.nodes) kept 0 is.within))
 
-  -- the texts of the outputs, behind the logic
+  -- the texts of the outputs, after the logic
   outputs_texts : (p q r : PartsOf) → p ≡ begun_to S (nets S.circuit) → q ≡ with_nodes p (map (node_by S.circuit (λ n. text_of p.names (name_at names n))) kept) → PartsGrow q r
       → map (λ net. text_of r.names (name_at names net)) S.circuit.outputs ≡ map (text_at S.names) S.circuit.outputs
   outputs_texts p q r begun added grows =
@@ -113,7 +115,7 @@ module _ (S : NetlistOf) (checked : IsBuilt S) (kept : List ℕ) (is : IsCone S.
           text_kept q r (name_at names net).number grows (omega (arith, own.own net there, there, own_count, ap (λ texts. length texts) here))
           ∙ ap (λ (texts : List (List ℕ)). text_at texts (name_at names net).number) here ∙ own_text net there
 
-  -- the parts that are composed are the stated ones, with whatever logic behind the own covers
+  -- the parts that are composed are the stated ones, with whatever logic after the own covers
   pub composed_are : (logic : PartsOf → PartsOf) (names_of : PartsOf → List (List ℕ)) (p q r t : PartsOf) (checks : List Name) (made : GateList) → p ≡ begun_to S (nets S.circuit)
       → q ≡ with_nodes p (map (node_by S.circuit (λ n. text_of p.names (name_at names n))) kept) → PartsGrow q r → r ≡ logic q → texts_of r.names checks ≡ names_of q
       → t ≡ with_checked r (map (λ net. text_of r.names (name_at names net)) S.circuit.outputs) (texts_of r.names checks) made

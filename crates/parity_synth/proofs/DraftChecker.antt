@@ -1,4 +1,4 @@
--- The circuit of a netlist with foretold checks ends in the checker, whose rails are two nets behind the function part; its plan is of it.
+-- The circuit of a netlist with foretold checks ends in the checker, whose rails are two nets after the function part; its plan is of it.
 use Rattle.std.proofs.Common.{◌≡◌, ℕ, ◌+◌, ◌<◌, ◌≤◌, inl, inr, List, [], ◌∷◌, ◌++◌, length, slice_index, slice_index_or, All, None, refl, sym, ◌∙◌, ap, subst, arith, length-append}
 use Rattle.std.proofs.lemmas.Bool.{cases_lt}
 use Rattle.std.proofs.lemmas.List.{length-map, get_or_append_left, get_or-append-add, get_or_at}
@@ -70,7 +70,7 @@ module _ (D : Draft) (h : IsDraft D) where
       let counted = writes_counted (number_in D) (free_number D.source.names) 0 (first_parts D) D.parts D.logic w in
       omega (arith, ap (λ (N : Named). length N.nodes) w.adds.named, length-append (own_nodes D.source (kept_of D)) w.added, length-map (kept_of D) (node_by D.source.circuit (text_at D.source.names)), counted)
 
-  -- the nodes are those with the checker, since outputs come behind
+  -- the nodes are those with the checker, since outputs come after
   nodes_same : (composed_named D).nodes ≡ (checker_parts D).parts.named.nodes
   unfolding with_checked
   nodes_same = refl
@@ -87,7 +87,7 @@ module _ (D : Draft) (h : IsDraft D) where
       subst (λ (n : ℕ). EndsInGates (composed_circuit D) (composed_plan D) n D.made) before_checker
       (circuit_ends (shown_parts D) (word_texts D) D.made None is_over (composed_named D) (composed_apart D h) nodes_same (composed_plan D) (monitored_are D h) refl refl)
 
-  -- the first rail is the net of a node behind the function part
+  -- the first rail is the net of a node after the function part
   pub first_rail : IsNodeNet (composed_circuit D) (top_of D) (composed_plan D).rail1
   first_rail =
       subst (IsNodeNet (composed_circuit D) (top_of D)) stands.first

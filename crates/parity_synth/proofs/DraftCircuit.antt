@@ -35,7 +35,7 @@ stand_first N xs ys zs is = record {
       ∙ get_or_append_left (xs ++ ys) zs no_node k (omega (arith, low, length-append xs ys)) ∙ get_or_append_left xs ys no_node k low;
 }
 
--- and the second stands behind it
+-- and the second stands after it
 stand_second : (N : Circuit) (xs ys zs : List NodeOf) → N.nodes ≡ (xs ++ ys) ++ zs → StandAt N (length xs) ys
 stand_second N xs ys zs is = record {
   fits = omega (arith, ap length is, length-append (xs ++ ys) zs, length-append xs ys);
@@ -71,13 +71,13 @@ module _ (D : Draft) (h : IsDraft D) where
   input_number i low =
       ap (λ (names : List (List ℕ)). place_of_text names (text_at D.source.names i)) (drivers_are D h) ∙ input_placed D.source h.checked (kept_of D) h.cone.rising h.cone.within (fresh_names D h) (fresh_few D h) i low
 
-  -- the numbers of covers go on behind the inputs
+  -- the numbers of covers go on after the inputs
   cover_number : (k : ℕ) → k < length (kept_of D) → number_in D (text_at D.source.names (node_net D.source.circuit (slice_index (kept_of D) k))) ≡ D.source.circuit.inputs + k
   cover_number k low =
       ap (λ (names : List (List ℕ)). place_of_text names (text_at D.source.names (node_net D.source.circuit (slice_index (kept_of D) k)))) (drivers_are D h)
       ∙ cover_placed D.source h.checked (kept_of D) h.cone.rising h.cone.within (fresh_names D h) (fresh_few D h) k low
 
-  -- and those of fresh names behind the covers
+  -- and those of fresh names after the covers
   fresh_number : (k : ℕ) → k < fresh_names D h → number_in D (fresh_text (free_number D.source.names) k) ≡ D.source.circuit.inputs + (length (kept_of D) + k)
   fresh_number k low =
       ap (λ (names : List (List ℕ)). place_of_text names (fresh_text (free_number D.source.names) k)) (drivers_are D h)
@@ -144,7 +144,7 @@ module _ (D : Draft) (h : IsDraft D) where
   own_stand =
       stand_first (composed_circuit D) (copied_nodes D.source.circuit (kept_of D) 0) D.logic (map (over (number_in D)) (checker_came D h).added) circuit_nodes
 
-  -- and the logic behind them
+  -- and the logic after them
   logic_stands : StandAt (composed_circuit D) (length (kept_of D)) D.logic
   logic_stands =
       subst (λ (n : ℕ). StandAt (composed_circuit D) n D.logic) copies_counted

@@ -103,7 +103,7 @@ module _ (D : Draft) (h : IsDraft D) where
       let few = (checker_came D h).few in
       omega (arith, few, sym (ap (λ (list : List NodeOf). length list) nodes_exact), nodes_counted D h)
 
-  -- there is a fresh name for each node behind the kept ones
+  -- there is a fresh name for each node after the kept ones
   fresh_counted : fresh_names D h ≡ length (checked_nodes D.source.circuit D.logic D.checks) - length (kept_of D)
   fresh_counted =
       omega (

@@ -28,7 +28,7 @@ module _ (D : Draft) (h : IsDraft D) where
   nodes_counted : length (composed_circuit D).nodes ≡ length (composed_named D).nodes
   nodes_counted = length-map (composed_named D).nodes _
 
-  -- the nodes are those with the checker, since outputs come behind
+  -- the nodes are those with the checker, since outputs come after
   nodes_same : (composed_named D).nodes ≡ (checker_parts D).parts.named.nodes
   unfolding with_checked
   nodes_same = refl
@@ -95,7 +95,7 @@ module _ (D : Draft) (h : IsDraft D) where
       ∙ get_or_append_left (output_texts D) (text_at (checker_parts D).names D.made.rail1 ∷ (text_at (checker_parts D).names D.made.rail2 ∷ [])) [] a (omega (arith, low, length-map D.source.circuit.outputs (text_at D.source.names)))
       ∙ get_or-map (text_at D.source.names) D.source.circuit.outputs a 0 [] low
 
-  -- a rail is behind the nets of the source's outputs
+  -- a rail is after the nets of the source's outputs
   rail_behind : (net : ℕ) → IsNodeNet (composed_circuit D) (top_of D) net → node_net (composed_circuit D) (top_of D) ≤ net
   rail_behind net is = let b = is.behind in let e = is.drives in omega (arith, b, e)
 

@@ -46,7 +46,7 @@ kept_of D = kept_places D.source.circuit
 abbrev pub first_parts : Draft → PartsOf
 first_parts D = own_parts D.source (kept_places D.source.circuit)
 
--- a source without latches whose outputs differ, with first-fit groups; logic that is written behind the own covers, and foretells these
+-- a source without latches whose outputs differ, with first-fit groups; logic that is written after the own covers, and foretells these
 -- groups wherever it stands; the gates of their checker
 pub record IsDraft (D : Draft) : Type 0 where
   pub checked : IsBuilt D.source
@@ -69,7 +69,7 @@ module _ (D : Draft) where
   abbrev pub output_texts : List (List ℕ)
   output_texts = map (text_at D.source.names) D.source.circuit.outputs
 
-  -- and with those of the checks behind them
+  -- and with those of the checks after them
   abbrev pub word_texts : List (List ℕ)
   word_texts = map (text_at D.source.names) D.source.circuit.outputs ++ D.texts
 
@@ -98,13 +98,13 @@ module _ (D : Draft) (h : IsDraft D) where
         fresh = fresh_placed D.source h.checked (kept_of D) h.cone.rising h.cone.within (length D.logic) size_few;
       })
 
-  -- fresh names go on behind the logic
+  -- fresh names go on after the logic
   later_fresh : IsFreshAt (free_number D.source.names) (length D.logic) D.parts
   later_fresh =
       subst (λ (n : ℕ). IsFreshAt (free_number D.source.names) n D.parts) (omega arith)
       (writes_fresh (place_of_text (names_with D.source (kept_of D) (length D.logic))) (free_number D.source.names) 0 (first_parts D) D.parts D.logic function_alone)
 
-  -- the nodes of the checker, which drive the fresh names behind
+  -- the nodes of the checker, which drive the fresh names that come after
   pub checker_came : HasFresh (free_number D.source.names) (length D.logic) (length D.made.gates) (shown_parts D) (checker_parts D).parts
   checker_came = checker_fresh (free_number D.source.names) (length D.logic) (shown_parts D) (word_texts D) D.made later_fresh
 

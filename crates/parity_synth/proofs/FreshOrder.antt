@@ -36,7 +36,7 @@ pub record AddsFresh (number count : ℕ) (p q : PartsOf) (added : List NamedNod
 pub next_is : (number count : ℕ) (p : PartsOf) → IsFreshAt number count p → next_fresh p ≡ fresh_text number count
 next_is number count p at = ap (λ (f : FreshNames). fresh_text f.number f.next) at
 
--- behind it fresh names go on with the next count
+-- after it fresh names go on with the next count
 pub fresh_behind : (number count : ℕ) (p q : PartsOf) → IsFreshAt number count p → q.fresh ≡ (with_fresh p).fresh → IsFreshAt number (count + 1) q
 fresh_behind number count p q at is =
     ap (fresh_of q) is ∙ ap (λ (f : FreshNames). let g : FreshNames = record { number = f.number; next = f.next + 1 } in g) at

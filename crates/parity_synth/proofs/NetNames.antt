@@ -21,7 +21,7 @@ fresh_part : ℕ → ℕ → FreshPart
 fresh_part number next = record { number = number; next = next }
 
 module _ (S : NetlistOf) (checked : IsBuilt S) where
-  -- behind the names of the source and some fresh ones, the later fresh ones are unused
+  -- after the names of the source and some fresh ones, the later fresh ones are unused
   unused : (n : ℕ) → n < 2 ^ 32 → IsFreshUnused (S.names ++ fresh_from (free_number S.names) 0 n) (Some (fresh_part (free_number S.names) n))
   unfolding fresh_part
   unused zero low =

@@ -87,7 +87,7 @@ module _ (S : NetlistOf) (made : GateList) (h : IsComposable S made) where
   logic_sized =
       omega (arith, predictors_counted S.circuit (parity_groups S.circuit) (length (kept_places S.circuit)) h.cones, sizes_are S.circuit (first_fit_groups S.circuit) (length (kept_places S.circuit)))
 
-  -- the logic is written behind the own covers
+  -- the logic is written after the own covers
   written : (net : List ℕ → ℕ) (last : ℕ) → length (parity_logic S.circuit) ≤ last → AreNumbered S net last
       → Writes net (free_number S.names) 0 (own_parts S (kept_places S.circuit)) (with_predictors S (first_fit_groups S.circuit) (own_parts S (kept_places S.circuit))) (parity_logic S.circuit)
   written net last room are =

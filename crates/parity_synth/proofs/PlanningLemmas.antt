@@ -29,6 +29,7 @@ plan_well_made P version code some most paired grouped latches weight states = r
     nothing : (b : ℕ) → b < length {A = List Bool} [] → ⊥
     nothing b h = omega arith
 
+-- first-fit groups aren't empty, and each output stands in them exactly once
 pub first_fit_grouped : (C : Circuit) (groups : List (List ℕ)) → AreFirstFit C groups → AreGrouped (length C.outputs) groups
 first_fit_grouped C groups fit = subst (AreGrouped (length C.outputs)) (sym fit.fit) (record {
   filled = first_fit-filled (share fit.cones) (length C.outputs);

@@ -38,7 +38,7 @@ module _ (net : List ℕ → ℕ) (number : ℕ) where
   pub writes_counted : (count : ℕ) (p q : PartsOf) (nodes : List NodeOf) (w : Writes net number count p q nodes) → length w.added ≡ length nodes
   writes_counted count p q nodes w = sym (length-map w.added (over net)) ∙ ap length w.are
 
-  -- fresh names go on behind them
+  -- fresh names go on after them
   pub writes_fresh : (count : ℕ) (p q : PartsOf) (nodes : List NodeOf) → Writes net number count p q nodes → IsFreshAt number (count + length nodes) q
   writes_fresh count p q nodes w = subst (λ (n : ℕ). IsFreshAt number (count + n) q) (writes_counted count p q nodes w) w.adds.fresh
 
@@ -58,14 +58,14 @@ module _ (net : List ℕ → ℕ) (number : ℕ) where
     are = refl;
   }
 
--- the fresh names go on behind those that were taken
+-- the fresh names go on after those that were taken
 names_behind : (number count n : ℕ) (p : PartsOf) → IsFreshAt number count p → IsFreshAt number (count + n) (with_fresh_names n p)
 names_behind number count zero p at = subst (λ (m : ℕ). IsFreshAt number m p) (let e : count ≡ count + 0 = omega arith in e) at
 names_behind number count (suc n) p at =
     subst (λ (m : ℕ). IsFreshAt number m (with_fresh_names (suc n) p)) (let e : count + n + 1 ≡ count + suc n = omega arith in e)
     (fresh_behind number (count + n) (with_fresh_names n p) (with_fresh_names (suc n) p) (names_behind number count n p at) refl)
 
--- the fresh name behind so many
+-- the fresh name after so many
 after_is : (number count n : ℕ) (p : PartsOf) → IsFreshAt number count p → fresh_after p n ≡ fresh_text number (count + n)
 after_is number count n p at = next_is number (count + n) (with_fresh_names n p) (names_behind number count n p at)
 
@@ -132,7 +132,7 @@ module _ (S : NetlistOf) (net : List ℕ → ℕ) (number kept last : ℕ) (none
       are = copies_are;
     }
 
-  -- the nodes of a chain over these nets, and the check behind it
+  -- the nodes of a chain over these nets, and the check after it
   abbrev check_nodes : ℕ → ℕ → List ℕ → List NodeOf
   check_nodes from made nets = chain_nodes S.circuit.inputs from made nets ++ gate not_cover (chain_end S.circuit.inputs from made nets ∷ []) ∷ []
 
@@ -150,7 +150,7 @@ module _ (S : NetlistOf) (net : List ℕ → ℕ) (number kept last : ℕ) (none
       (check_nodes (suc (kept + count)) (S.circuit.inputs + (kept + count)) (map net names)) refl first
       (subst (Writes net number (count + 1) q (with_check q (next_fresh p) names)) (ap₂ (λ (a b : ℕ). check_nodes a b (map net names)) from here) rest)
 
--- the name that came last behind a chain is that of the check
+-- the name that came last after a chain is that of the check
 pub check_last : (number : ℕ) (names : List (List ℕ)) (made : List ℕ) (count : ℕ) (p : PartsOf) → IsFreshAt number count p → last_name (with_check p made names) ≡ fresh_text number (count + length names)
 check_last number [] made count p at =
     let long : length (p.names ++ next_fresh p ∷ []) - 1 ≡ length p.names = omega (arith, length-append p.names (next_fresh p ∷ [])) in

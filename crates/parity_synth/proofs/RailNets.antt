@@ -1,4 +1,4 @@
--- The nets of gates rise with their places, but for places of the word.
+-- The nets of gates rise with their places, except at places of the word.
 use Rattle.std.proofs.Common.{◌≡◌, ℕ, zero, suc, ◌<◌, ◌≤◌, List, [], ◌∷◌, length, slice_index, slice_index_or, refl, arith}
 use Rattle.code_checkers.specs.declared.gate.CheckGate.{CheckGate}
 use Rattle.code_checkers.specs.declared.gate.CheckGate.TheVariants as gate
@@ -8,7 +8,7 @@ use Rattle.code_checkers.specs.CheckerNodes.{gate_net, net_behind, gate_nets}
 abbrev pub IsNoWord : List CheckGate → ℕ → Type 0
 IsNoWord gates k = (word : ℕ) → slice_index_or gates k (gate.Word 0) ≡ gate.Word word → ⊥
 
--- a gate that is no place of the word has the next net, and one is behind it
+-- a gate that is no place of the word has the next net, and one is after it
 own_net : (word : List ℕ) (next : ℕ) (g : CheckGate) → ((place : ℕ) → g ≡ gate.Word place → ⊥) → (gate_net word next g ≡ next) × (next < net_behind next g)
 own_net word next (gate.Word place) other = absurd (other place refl)
 own_net word next (gate.Buf a) other = (refl, omega arith)
@@ -17,7 +17,7 @@ own_net word next (gate.And a b) other = (refl, omega arith)
 own_net word next (gate.Or a b) other = (refl, omega arith)
 own_net word next (gate.Xor a b) other = (refl, omega arith)
 
--- the next net behind a gate is no lower
+-- the next net after a gate is no lower
 behind_rises : (next : ℕ) (g : CheckGate) → next ≤ net_behind next g
 behind_rises next (gate.Word place) = omega arith
 behind_rises next (gate.Buf a) = omega arith

@@ -41,6 +41,7 @@ first_fit_length : (shares : ℕ → ℕ → Bool) (outputs : ℕ) → length (c
 first_fit_length shares zero = refl
 first_fit_length shares (suc outputs) = let more : length (concat_places (first_fit shares (suc outputs))) ≡ 1 + length (concat_places (first_fit shares outputs)) = joined_length shares (first_fit shares outputs) outputs in omega (arith, more, first_fit_length shares outputs)
 
+-- first-fit groups have together as many places as there are outputs
 pub places_counted : (C : Circuit) (groups : List (List ℕ)) → AreFirstFit C groups → length (concat_places groups) ≡ length C.outputs
 places_counted C groups fit = ap (λ gs. length (concat_places gs)) fit.fit ∙ first_fit_length (share fit.cones) (length C.outputs)
 
@@ -49,6 +50,7 @@ place_low : (places : List ℕ) → ((i k : ℕ) → i < k → k < length places
 place_low places rising zero h = omega arith
 place_low places rising (suc k) h = let before = place_low places rising k (omega arith) in let up = rising k (suc k) (omega arith) h in omega (arith, before, up)
 
+-- a cone has at most as many places as its circuit has nodes
 pub cone_few : (C : Circuit) (roots places : List ℕ) → IsCone C roots places → length places ≤ length C.nodes
 cone_few C roots places is = elim (cases_eq (length places) 0) [
   | inl none ↦ omega arith
@@ -59,7 +61,7 @@ cone_few C roots places is = elim (cases_eq (length places) 0) [
       omega (arith, low, high))
 ]
 
--- predictors end behind where they begin
+-- predictors end after where they begin
 pub end_behind : (groups : List GroupCone) (base : ℕ) → base ≤ predictors_end groups base
 end_behind [] base = omega arith
 end_behind (g ∷ groups) base = let more = end_behind groups (base + size_of g) in omega (arith, more)
@@ -77,6 +79,7 @@ end_within C groups i item base whole within is all =
 large : (a n : ℕ) → n ≤ a + n + 1
 large a n = omega arith
 
+-- a circuit's size is at least the number of its nodes
 pub nodes_within : (C : Circuit) → length C.nodes ≤ network_size C
 nodes_within C = large (literal_count C + rows C) (length C.nodes)
 

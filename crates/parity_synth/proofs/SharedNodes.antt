@@ -57,7 +57,7 @@ module _ (S : NetlistOf) (net : List ℕ → ℕ) (number kept last : ℕ) (none
     one_counted group from =
         check_counted S.circuit.inputs from (map copy (outputs_at S.circuit group)) ∙ length-map (outputs_at S.circuit group) copy ∙ length-map group (slice_index S.circuit.outputs)
 
-    -- fresh names go on behind it
+    -- fresh names go on after it
     one_fresh : (group : List ℕ) (count : ℕ) (p : PartsOf) → 0 < length group → Q group → IsFreshAt number count p → count + length group ≤ last
         → IsFreshAt number (count + length group) (with_parity p (map text (outputs_at S.circuit group)))
     one_fresh group count p some within at room =
@@ -109,7 +109,7 @@ module _ (S : NetlistOf) (net : List ℕ → ℕ) (number kept last : ℕ) (none
     copies_counted : length (copied_nodes S.circuit places (kept + count)) ≡ length places
     copies_counted = length-map places (λ place. renamed (copy_net S.circuit places (kept + count)) (node S.circuit place))
 
-    -- fresh names go on behind them
+    -- fresh names go on after them
     behind : IsFreshAt number (count + length places) (with_copies S places p)
     behind = subst (λ (n : ℕ). IsFreshAt number (count + n) (with_copies S places p)) copies_counted (writes_fresh net number count p (with_copies S places p) (copied_nodes S.circuit places (kept + count)) copies)
 

@@ -1,4 +1,4 @@
--- What a netlist with foretold checks is, whatever foretells them: the source's own covers, the logic of the checks behind them, and
+-- What a netlist with foretold checks is, whatever foretells them: the source's own covers, the logic of the checks after them, and
 -- the stated checker over the outputs and the checks; and its plan. Each node, net and name is computed from the network, the logic
 -- and the nets of the checks.
 use Rattle.std.specs.Prelude.{ℕ, ◌+◌, ◌-◌, List, [], ◌∷◌, ◌++◌, map, take, length}
@@ -45,7 +45,7 @@ plan_of C checks rail1 rail2 = plan_over (length C.outputs) checks (first_fit_gr
 abbrev pub word_of : Circuit → List ℕ → List ℕ
 word_of C checks = output_nets C ++ checks
 
--- the net of the checker's first node, behind the logic
+-- the net of the checker's first node, after the logic
 abbrev pub checker_net_of : Circuit → List NodeOf → ℕ
 checker_net_of C logic = C.inputs + (length (kept_places C) + length logic)
 
@@ -81,7 +81,7 @@ fresh_texts number count = map (fresh_text number) (range_with_len 0 count)
 abbrev pub names_with : NetlistOf → List ℕ → ℕ → List (List ℕ)
 names_with S places count = (take S.circuit.inputs S.names ++ cover_names S places) ++ fresh_texts (free_number S.names) count
 
--- the netlist: the inputs and the source's own covers keep their names, the nodes behind them have fresh ones in their order
+-- the netlist: the inputs and the source's own covers keep their names, the nodes after them have fresh ones in their order
 abbrev pub checked_netlist : NetlistOf → List NodeOf → List ℕ → NetlistOf
 checked_netlist S logic checks = record {
   circuit = checked_circuit S.circuit logic checks;

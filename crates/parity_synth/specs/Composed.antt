@@ -25,7 +25,7 @@ own_nodes S kept = map (node_by S.circuit (text_at S.names)) kept
 abbrev pub own_parts : NetlistOf → List ℕ → PartsOf
 own_parts S kept = with_nodes (begun_to S (nets S.circuit)) (own_nodes S kept)
 
--- the parts of a parity netlist: the own covers with the predictors of some groups behind them, the outputs, and a checker over these
+-- the parts of a parity netlist: the own covers with the predictors of some groups after them, the outputs, and a checker over these
 -- and the checks
 abbrev pub composed_parts : NetlistOf → List ℕ → List (List ℕ) → GateList → PartsOf
 composed_parts S kept groups made =

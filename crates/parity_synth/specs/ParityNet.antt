@@ -1,4 +1,4 @@
--- The parity netlist of a network with its plan: each node, net and name of them, computed from the network alone. Behind the source's
+-- The parity netlist of a network with its plan: each node, net and name of them, computed from the network alone. After the source's
 -- own covers it has a predictor for each first-fit group.
 use Rattle.std.specs.Prelude.{◌≡◌, ℕ, List, map, length}
 use Rattle.fault_secure.specs.Circuit.{Circuit, NodeOf}
@@ -27,6 +27,7 @@ parity_logic C = all_predictors C (parity_groups C) (length (kept_places C))
 abbrev pub parity_checks : Circuit → List ℕ
 parity_checks C = check_nets C.inputs (parity_groups C) (length (kept_places C))
 
+-- the plan of the parity netlist of a network
 abbrev pub parity_plan : Circuit → CodePlan
 parity_plan C = checked_plan C (parity_logic C) (parity_checks C)
 
@@ -36,6 +37,7 @@ parity_nodes C = checked_nodes C (parity_logic C) (parity_checks C)
 abbrev pub parity_circuit : Circuit → Circuit
 parity_circuit C = checked_circuit C (parity_logic C) (parity_checks C)
 
+-- the parity netlist of a network: its circuit and its names
 abbrev pub parity_netlist : NetlistOf → NetlistOf
 parity_netlist S = checked_netlist S (parity_logic S.circuit) (parity_checks S.circuit)
 

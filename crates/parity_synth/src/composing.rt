@@ -89,7 +89,7 @@ fn composed(
     Ok(parts)
 }
 
-/// Adds the outputs, the checker over outputs and checks, and the rails behind the outputs.
+/// Adds the outputs, the checker over outputs and checks, and the rails after the outputs.
 ///
 /// # Errors
 ///

@@ -11,8 +11,8 @@ pub fn one_parity_netlist()
     ensures plan { (S N K : NetlistOf) (P Q : CodePlan) → IsParityNetlist S N P → IsParityNetlist S K Q → P ≡ Q }
 {}
 
-/// A law: a parity netlist and its plan are of the form that a netlist over one shared copy has too: the own covers, logic that
-/// foretells the groups, here a predictor for each, and the checker over outputs and checks.
+/// A law: a parity netlist and its plan are of the form that a netlist over one shared copy has too. It has the own covers, logic that
+/// foretells the groups, here one predictor for each, and the checker over outputs and checks.
 pub fn parity_is_checked()
     ensures net { (S : NetlistOf) → parity_netlist S ≡ checked_netlist S (parity_logic S.circuit) (parity_checks S.circuit) }
     ensures plan { (S : NetlistOf) → parity_plan S.circuit ≡ checked_plan S.circuit (parity_logic S.circuit) (parity_checks S.circuit) }

@@ -59,6 +59,7 @@ shaped_behind (line ∷ lines) before i o e a b =
     (shaped_behind lines (before ++ line ∷ []) i o parts.1
     (ap (count_in Inputs) (append_assoc before (line ∷ []) lines) ∙ a) (ap (count_in Outputs) (append_assoc before (line ∷ []) lines) ∙ b))
 
+-- in lines without a fault that state so many inputs and outputs, each row has their shape
 pub shaped_lines : (lines : List TextLine) (i o : ℕ) → first_fault lines ≡ None → count_in Inputs lines ≡ Some i → count_in Outputs lines ≡ Some o → AreShaped i o lines
 shaped_lines lines i o e a b = shaped_behind lines [] i o e a b
 

@@ -46,9 +46,6 @@ named_with p q nodes is = ap (λ (s : PartsOf). s.named) is
 pub names_with : (p q : PartsOf) (nodes : List NamedNode) → q ≡ with_nodes p nodes → q.names ≡ p.names
 names_with p q nodes is = ap (λ (s : PartsOf). s.names) is
 
-inputs_with : (p q : PartsOf) (nodes : List NamedNode) → q ≡ with_nodes p nodes → q.named.inputs ≡ p.named.inputs
-inputs_with p q nodes is = ap (λ (s : PartsOf). s.named.inputs) is
-
 -- a table that begins with another is it and something more
 front_and_rest : (k : ℕ) (xs ys : List (List ℕ)) → take k xs ≡ ys → xs ≡ ys ++ drop k xs
 front_and_rest k xs ys e = sym (take-append-drop k xs) ∙ ap (λ l. l ++ drop k xs) e

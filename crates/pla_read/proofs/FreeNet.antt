@@ -91,6 +91,7 @@ module _ (inputs outputs lefts barred : List (List ℕ)) (table : TableOf) (outp
   front_many : length (gates ++ frees) ≡ n + n
   front_many = omega (arith, length-append gates frees, gates_many, frees_many)
 
+  -- the network has three nodes per output
   pub nodes_many : length N.nodes ≡ n + n + n
   nodes_many = omega (arith, length-append (gates ++ frees) ones, front_many, ones_many)
 
@@ -203,6 +204,7 @@ module _ (inputs outputs lefts barred : List (List ℕ)) (table : TableOf) (outp
           at (suc zero) hp = second
           at (suc (suc pin)) hp = absurd (omega arith)
 
+  -- the network is sound, where there is an output
   pub free_sound : 1 ≤ n → IsSound N
   free_sound some = record {
     driven_once = driven_once;
@@ -249,6 +251,7 @@ module _ (inputs outputs lefts barred : List (List ℕ)) (table : TableOf) (outp
       get_or-map (place_of_text (drivers N)) outputs k [] 0 (omega (arith, h, outputs_many))
       ∙ net_of k (gate_node outputs lefts barred k) (omega (arith, h, nodes_many)) (gate_at k h)
 
+  -- where each row has one literal per input, and the circuit is acyclic, the network answers which outputs are free
   pub free_answers : length inputs ≡ table.inputs → AreWide table → Acyclic (circuit_of N) → AnswersAs (is_free table) (circuit_of N)
   free_answers inputs_many wide acyclic =
       answers_as (circuit_of N) (is_free table) acyclic

@@ -1,12 +1,10 @@
 -- The refusals of a whole section, and the table that is read.
-use Rattle.std.proofs.Common.{◌≡◌, ℕ, ◌≤◌, Bool, true, false, ◌&&◌, if◌then◌else◌, List, length, map, Option, Some, None, unwrap_or, refl, sym, ap, ap₂, ◌∙◌, subst, arith}
+use Rattle.std.proofs.Common.{◌≡◌, ℕ, ◌≤◌, true, ◌&&◌, if◌then◌else◌, List, length, Option, Some, None, unwrap_or, refl, sym, ap, ap₂, ◌∙◌, subst, arith}
 use Rattle.std.specs.Option.{option_map, is_some}
 use Rattle.tsc_text.specs.TextLine.{TextLine}
 use Rattle.table_lines.specs.LineFaults.{number_in}
-use Rattle.table_lines.specs.NamesText.{names_or, wrong_names}
-use Rattle.table_lines.specs.declared.cause.LineFault.{LineFault}
-use Rattle.pla_read.specs.Selections.{count_in, frees_of, has_line, line_of, rows_of}
-use Rattle.pla_read.specs.RowText.{row_at, TableRow}
+use Rattle.table_lines.specs.NamesText.{wrong_names}
+use Rattle.pla_read.specs.Selections.{count_in, has_line, line_of}
 use Rattle.pla_read.specs.TableText.{table_text, TableOf}
 use Rattle.pla_read.specs.Networks.{input_names, output_names, value_named, value_node, value_text}
 use Rattle.pla_read.specs.FreeParts.{frees_named}
@@ -17,13 +15,10 @@ use Rattle.std.proofs.lemmas.List.{length-map}
 use Rattle.std.proofs.lemmas.List.FromFn.{length-map-range_with_len}
 use Rattle.fault_secure.specs.Circuit.{nets}
 use Rattle.pla_read.specs.Faults.{first_fault}
-use Rattle.pla_read.specs.Refusal.{first_refusal, heading_refusal, last_number, line_refusal, refusal, wrong_names_in, IsRefusedBy}
-use Rattle.pla_read.specs.Shaped.{row_as, HasRows}
+use Rattle.pla_read.specs.Refusal.{first_refusal, heading_refusal, last_number, line_refusal, refusal, wrong_names_in}
 use Rattle.pla_read.specs.declared.kinds.LineKind.{LineKind}
 use Rattle.pla_read.specs.declared.kinds.LineKind.TheVariants.{Inputs, Outputs, InputNames, OutputNames}
-use Rattle.pla_read.specs.declared.error.PlaError.{PlaError}
-use Rattle.pla_read.specs.declared.error.PlaError.TheVariants.{Header, Unsupported, RowShape, Limit, Memory}
-use Rattle.pla_read.specs.declared.rows.PlaRow.{PlaRow}
+use Rattle.pla_read.specs.declared.error.PlaError.TheVariants.{Header}
 
 -- ---- counts
 
@@ -34,46 +29,13 @@ has_count kind lines n e = by (line_of kind lines) e
     by None f = cc
     by (Some line) f = refl
 
-no_count : (kind : LineKind) (lines : List TextLine) → count_in kind lines ≡ None → has_line kind lines ≡ false
-no_count kind lines e = by (line_of kind lines) e
-  where
-    by : (o : Option TextLine) → option_map number_in o ≡ None → is_some o ≡ false
-    by None f = refl
-    by (Some line) f = cc
-
 count_is : (kind : LineKind) (lines : List TextLine) (n : ℕ) → count_in kind lines ≡ Some n → unwrap_or (count_in kind lines) 0 ≡ n
 count_is kind lines n e = ap (λ (o : Option ℕ). unwrap_or o 0) e
 
 -- ---- refusals
 
--- the section is refused by its refusal
-pub refused_is : (refusal : Option PlaError) (error : PlaError) → refusal ≡ Some error → IsRefusedBy refusal error
-refused_is refusal (Header line) e = e
-refused_is refusal (Unsupported line) e = e
-refused_is refusal (RowShape line) e = e
-refused_is refusal (Limit line which) e = e
-refused_is refusal (Memory error) e = tt
-
-pub line_refused : (lines : List TextLine) (fault : LineFault) (error : PlaError) → first_fault lines ≡ Some fault → error ≡ line_refusal fault → IsRefusedBy (refusal lines) error
-line_refused lines fault error e f =
-    refused_is (refusal lines) error (ap (λ o. first_refusal (option_map line_refusal o) (heading_refusal lines)) e ∙ ap Some (sym f))
-
 clean_refusal : (lines : List TextLine) → first_fault lines ≡ None → refusal lines ≡ heading_refusal lines
 clean_refusal lines e = ap (λ o. first_refusal (option_map line_refusal o) (heading_refusal lines)) e
-
-no_and : (a : Bool) → (a && false) ≡ false
-no_and true = refl
-no_and false = refl
-
-headless : (lines : List TextLine) → first_fault lines ≡ None → (has_line Inputs lines && has_line Outputs lines) ≡ false → refusal lines ≡ Some (Header (last_number lines))
-headless lines e f = clean_refusal lines e ∙ ap (λ b. if b then option_map Header (wrong_names_in lines) else Some (Header (last_number lines))) f
-
-pub no_inputs : (lines : List TextLine) (line : ℕ) → first_fault lines ≡ None → count_in Inputs lines ≡ None → line ≡ last_number lines → refusal lines ≡ Some (Header line)
-no_inputs lines line e f g = headless lines e (ap (λ b. b && has_line Outputs lines) (no_count Inputs lines f)) ∙ ap (λ n. Some (Header n)) (sym g)
-
-pub no_outputs : (lines : List TextLine) (line : ℕ) → first_fault lines ≡ None → count_in Outputs lines ≡ None → line ≡ last_number lines → refusal lines ≡ Some (Header line)
-no_outputs lines line e f g =
-    headless lines e (ap (λ b. has_line Inputs lines && b) (no_count Outputs lines f) ∙ no_and (has_line Inputs lines)) ∙ ap (λ n. Some (Header n)) (sym g)
 
 pub names_alone : (lines : List TextLine) (i o : ℕ) → first_fault lines ≡ None → count_in Inputs lines ≡ Some i → count_in Outputs lines ≡ Some o
     → refusal lines ≡ option_map Header (wrong_names_in lines)
@@ -88,25 +50,7 @@ pub wrong_names_are : (lines : List TextLine) (given shown : Option TextLine) (i
 wrong_names_are lines given shown i o a b e f =
     ap₂ (λ p q. wrong_names p i q o) a b ∙ ap₂ (λ n m. wrong_names (line_of InputNames lines) n (line_of OutputNames lines) m) (sym (count_is Inputs lines i e)) (sym (count_is Outputs lines o f))
 
-pub input_names_are : (lines : List TextLine) (given : Option TextLine) (i : ℕ) → given ≡ line_of InputNames lines → count_in Inputs lines ≡ Some i
-    → names_or given 105 i ≡ input_names lines
-input_names_are lines given i a e = ap₂ (λ p n. names_or p 105 n) a (sym (count_is Inputs lines i e))
-
-pub output_names_are : (lines : List TextLine) (given : Option TextLine) (o : ℕ) → given ≡ line_of OutputNames lines → count_in Outputs lines ≡ Some o
-    → names_or given 111 o ≡ output_names lines
-output_names_are lines given o a e = ap₂ (λ p n. names_or p 111 n) a (sym (count_is Outputs lines o e))
-
 -- ---- the table
-
-same_table : (i i' o o' : ℕ) (r r' : List TableRow) → i ≡ i' → o ≡ o' → r ≡ r'
-    → ◌≡◌ {A = TableOf} (record { inputs = i; outputs = o; rows = r }) (record { inputs = i'; outputs = o'; rows = r' })
-same_table i i' o o' r r' a b c = cc
-
-pub table_read : (lines : List TextLine) (i o : ℕ) (frees : Bool) (rows : List PlaRow) → count_in Inputs lines ≡ Some i → count_in Outputs lines ≡ Some o → frees ≡ frees_of lines
-    → HasRows (record { inputs = i; outputs = o; frees = frees }) lines rows → ◌≡◌ {A = TableOf} (record { inputs = i; outputs = o; rows = map (row_as i o) rows }) (table_text lines)
-table_read lines i o frees rows a b f has =
-    same_table _ _ _ _ _ _ (sym (count_is Inputs lines i a)) (sym (count_is Outputs lines o b))
-    (has.same ∙ ap (λ c. map (row_at c) (rows_of lines)) f)
 
 -- what `free` and `value` are together
 pub loose_source : (inputs outputs : List (List ℕ)) (table : TableOf) (V F : NetlistOf) → V ≡ netlist_of (value_named inputs outputs table) → IsFreeNet inputs outputs table F

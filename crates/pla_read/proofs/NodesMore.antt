@@ -1,13 +1,12 @@
--- Nodes that are added one output after the other, and inputs that are read one after the other.
-use Rattle.std.proofs.Common.{◌≡◌, ℕ, ◌+◌, ◌<◌, List, [], ◌∷◌, ◌++◌, length, take, get_or, All, sym, ap, ap₂, ◌∙◌, subst, arith, append_assoc}
-use Rattle.std.proofs.lemmas.List.{append-nil, get_or-map, map-append, take_more}
-use Rattle.std.proofs.lemmas.List.Elements.{All-push}
+-- Nodes that are added one output after the other.
+use Rattle.std.proofs.Common.{◌≡◌, ℕ, ◌+◌, ◌<◌, List, [], ◌∷◌, ◌++◌, length, get_or, sym, ap, ap₂, ◌∙◌, arith, append_assoc}
+use Rattle.std.proofs.lemmas.List.{get_or-map}
 use Rattle.std.proofs.lemmas.List.FromFn.{map-range_with_len_more}
 use Rattle.tsc_cover.specs.Cover.{CoverTable}
 use Rattle.tsc_net.specs.Named.{NamedNode}
 use Rattle.tsc_net.specs.Names.{text_at}
 use Rattle.tsc_net.specs.Parts.{with_node, PartsOf}
-use Rattle.tsc_net.specs.PartsView.{text_of, texts_of, IsName}
+use Rattle.tsc_net.specs.PartsView.{text_of, texts_of}
 use Rattle.tsc_net.specs.declared.ids.Name.{Name}
 use Rattle.pla_read.specs.TableText.{TableOf}
 use Rattle.pla_read.specs.Covers.{rows_cover}
@@ -16,9 +15,6 @@ use Rattle.pla_read.specs.declared.table.Chosen.{Chosen}
 
 abbrev with_list : PartsOf → List NamedNode → PartsOf
 with_list p nodes = let N = p.named in record p { named = record N { nodes = nodes } }
-
-pub with_none : (p : PartsOf) → p ≡ with_nodes p []
-with_none p = sym (ap (with_list p) (append-nil p.named.nodes))
 
 -- one node more
 pub node_more : (p q r : PartsOf) (nodes all : List NamedNode) (node : NamedNode) → q ≡ with_nodes p nodes → r ≡ with_node q node.reads node.out node.cover → all ≡ nodes ++ node ∷ []
@@ -38,10 +34,6 @@ kept_inputs p q nodes is = ap (λ (s : PartsOf). s.named.inputs) is
 pub text_in : (names : List (List ℕ)) (list : List Name) (place : ℕ) (name d : Name) → place < length list → name ≡ get_or list place d
     → text_of names name ≡ text_at (texts_of names list) place
 text_in names list place name d below is = ap (text_of names) is ∙ sym (get_or-map (text_of names) list place d [] below)
-
-same_node : (r s : List (List ℕ)) (o o' : List ℕ) (c : CoverTable) → r ≡ s → o ≡ o'
-    → ◌≡◌ {A = NamedNode} (record { reads = r; out = o; cover = c }) (record { reads = s; out = o'; cover = c })
-same_node r s o o' c e f = cc
 
 pub rows_more : (p q r : PartsOf) (outs : List Name) (chosen : Chosen) (table : TableOf) (place : ℕ) (out d : Name) (cover : CoverTable)
     → q ≡ with_nodes p (rows_nodes p.named.inputs (texts_of p.names outs) chosen table place) → place < length outs → out ≡ get_or outs place d
@@ -73,12 +65,3 @@ gates_more p q r lefts barred outs place left bar out d e f is below lefts_many 
     (ap₂ (λ a b. a ∷ b ∷ []) (text lefts left d (omega (arith, below, lefts_many)) left_is) (text barred bar e (omega (arith, below, barred_many)) bar_is))
     (text outs out f below out_is))
     (map-range_with_len_more (gate_node (texts_of p.names outs) (texts_of p.names lefts) (texts_of p.names barred)) 0 place place (omega arith))
-
--- one input more
-pub inputs_more : (names inputs : List (List ℕ)) (list all : List Name) (place : ℕ) (name : Name) → texts_of names list ≡ take place inputs → place < length inputs
-    → text_of names name ≡ text_at inputs place → all ≡ list ++ name ∷ [] → texts_of names all ≡ take (place + 1) inputs
-inputs_more names inputs list all place name is below text pushed =
-    ap (texts_of names) pushed ∙ map-append (text_of names) list (name ∷ []) ∙ ap₂ (λ xs x. xs ++ x ∷ []) is text ∙ sym (take_more inputs place [] below)
-
-pub names_more : (names : List (List ℕ)) (list all : List Name) (name : Name) → All (IsName names) list → IsName names name → all ≡ list ++ name ∷ [] → All (IsName names) all
-names_more names list all name are is pushed = subst (All (IsName names)) (sym pushed) (All-push (IsName names) list name are is)

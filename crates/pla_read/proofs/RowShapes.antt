@@ -26,6 +26,7 @@ pub record HasWords (inputs outputs : ℕ) (words : List (List ℕ)) : Type 0 wh
   pub input_read : is_row_text (get_or words 0 []) ≡ true
   pub output_wide : length (get_or words 1 []) ≡ outputs
 
+-- a row of that shape has these two words
 pub words_of_shape : (inputs outputs : ℕ) (words : List (List ℕ)) → has_row_shape inputs outputs words ≡ true → HasWords inputs outputs words
 words_of_shape inputs outputs [] e = cc
 words_of_shape inputs outputs (a ∷ []) e = cc

@@ -1,11 +1,11 @@
 -- Tables of names that are written in a row, and the texts of numbered names.
-use Rattle.std.proofs.Common.{◌≡◌, ℕ, ◌+◌, ◌<◌, ◌≤◌, Bool, true, false, if◌then◌else◌, List, [], ◌∷◌, ◌++◌, map, length, take, drop, get_or, All, refl, sym, ap, ap₂, ◌∙◌, subst, arith, append_assoc, length-append}
+use Rattle.std.proofs.Common.{◌≡◌, ℕ, ◌+◌, ◌<◌, ◌≤◌, Bool, true, false, List, [], ◌∷◌, ◌++◌, map, length, take, drop, get_or, All, refl, sym, ap, ap₂, ◌∙◌, subst, arith, append_assoc, length-append}
 use Rattle.std.specs.List.{range_with_len}
-use Rattle.std.proofs.lemmas.List.{append-nil, get_or-append-add, get_or_append_left, get_or_default, length-take-le, take-append-drop, take_more}
+use Rattle.std.proofs.lemmas.List.{get_or-append-add, get_or_append_left, get_or_default, length-take-le, take-append-drop, take_more}
 use Rattle.std.proofs.lemmas.List.FromFn.{get_or-map-range_with_len, length-map-range_with_len, map-range_with_len_more}
-use Rattle.tsc_net.specs.Names.{has_text, text_at, with_text, place_of_text, IsNumbering}
-use Rattle.tsc_net.specs.Parts.{with_input, with_name, with_output, PartsOf}
-use Rattle.tsc_net.specs.PartsView.{text_of, texts_of, IsName}
+use Rattle.tsc_net.specs.Names.{has_text, text_at, place_of_text, IsNumbering}
+use Rattle.tsc_net.specs.Parts.{PartsOf}
+use Rattle.tsc_net.specs.PartsView.{texts_of, IsName}
 use Rattle.tsc_net.specs.declared.ids.Name.{Name}
 use Rattle.tsc_net.proofs.NameLemmas.{place_past, place_within, text_at_place}
 use Rattle.net_building.specs.Names.{numbered}
@@ -77,27 +77,6 @@ back_distinct front back distinct = record {
 }
 
 -- ---- the beginning of the parts
-
-added : (names : List (List ℕ)) (t : List ℕ) → has_text names t ≡ false → with_text names t ≡ names ++ t ∷ []
-added names t new = ap (λ b. if b then names else names ++ t ∷ []) new
-
--- a name that is new, and an input or output by it
-pub named_input : (p q r : PartsOf) (inputs : List (List ℕ)) (t : List ℕ) (name : Name) → p ≡ begun inputs [] → has_text inputs t ≡ false → q ≡ with_name p t
-    → text_of q.names name ≡ t → r ≡ with_input q (text_of q.names name) → r ≡ begun (inputs ++ t ∷ []) []
-named_input p q r inputs t name is new step text more =
-    let start : q ≡ with_name (begun inputs []) t = step ∙ ap (λ (s : PartsOf). with_name s t) is in
-    let names : with_text (inputs ++ []) t ≡ (inputs ++ t ∷ []) ++ [] =
-    ap (λ l. with_text l t) (append-nil inputs) ∙ added inputs t new ∙ sym (append-nil (inputs ++ t ∷ [])) in
-    more ∙ ap₂ with_input start text
-    ∙ ap (λ (l : List (List ℕ)). let b = begun (inputs ++ t ∷ []) [] in record b { names = l }) names
-
-pub named_output : (p q r : PartsOf) (inputs outputs : List (List ℕ)) (t : List ℕ) (name : Name) → p ≡ begun inputs outputs → has_text (inputs ++ outputs) t ≡ false
-    → q ≡ with_name p t → text_of q.names name ≡ t → r ≡ with_output q (text_of q.names name) → r ≡ begun inputs (outputs ++ t ∷ [])
-named_output p q r inputs outputs t name is new step text more =
-    let start : q ≡ with_name (begun inputs outputs) t = step ∙ ap (λ (s : PartsOf). with_name s t) is in
-    let names : with_text (inputs ++ outputs) t ≡ inputs ++ (outputs ++ t ∷ []) = added (inputs ++ outputs) t new ∙ append_assoc inputs outputs (t ∷ []) in
-    more ∙ ap₂ with_output start text
-    ∙ ap (λ (l : List (List ℕ)). let b = begun inputs (outputs ++ t ∷ []) in record b { names = l }) names
 
 pub number_new : (names : List (List ℕ)) (t : List ℕ) (number : ℕ) → number ≡ place_of_text names t → has_text names t ≡ false → number ≡ length names
 number_new names t number is new = is ∙ place_past names t new

@@ -37,6 +37,7 @@ module _ (inputs outputs : List (List ℕ)) (table : TableOf) (inputs_many : len
       (λ k h. get_or-map (λ (n : NamedNode). n.out) N.nodes k no_named [] (omega (arith, h, nodes_many)) ∙ ap (λ (n : NamedNode). n.out) (node_is k h))
       ∙ sym (fill_by_all (text_at outputs) outputs table.outputs [] outputs_many (λ k h. refl))
 
+  -- the drivers are the inputs and then the outputs
   pub driven : drivers N ≡ inputs ++ outputs
   driven = ap₂ (λ a b. a ++ b) (append-nil inputs) outs
 
@@ -55,6 +56,7 @@ module _ (inputs outputs : List (List ℕ)) (table : TableOf) (inputs_many : len
       get_or-map (λ (n : NamedNode). n.reads) N.nodes k no_named [] h
       ∙ ap (λ (n : NamedNode). n.reads) (node_is k (omega (arith, h, nodes_many)))
 
+  -- the network is sound, where there is an output
   pub value_sound : 1 ≤ table.outputs → IsSound N
   value_sound some = record {
     driven_once = driven_once;
@@ -80,6 +82,7 @@ module _ (inputs outputs : List (List ℕ)) (table : TableOf) (inputs_many : len
       ∙ ap (place_of_text (drivers N)) (ap (λ names. text_at names k) (sym outs))
       ∙ place_of_node N driven_once k (omega (arith, h, nodes_many))
 
+  -- where each row has one literal per input, and the circuit is acyclic, the network answers which outputs are 1
   pub value_answers : AreWide table → Acyclic (circuit_of N) → AnswersAs (is_one table) (circuit_of N)
   value_answers wide acyclic =
       answers_as (circuit_of N) (is_one table) acyclic

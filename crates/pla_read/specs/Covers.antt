@@ -15,6 +15,7 @@ abbrev pub marks_in : Mark → PlaRow → ℕ
 marks_in mark.One row = row.ones
 marks_in mark.Free row = row.free
 
+-- the marks of a row as bits
 abbrev pub marks_of : Mark → TableRow → List Bool
 marks_of mark.One row = row.ones
 marks_of mark.Free row = row.free

@@ -1,4 +1,4 @@
--- What is refused of a line, behind the lines before it.
+-- Why a line is refused, after the lines before it.
 use Rattle.std.specs.Prelude.{ℕ, ◌||◌, ◌==◌, if◌then◌else◌, List, [], length, nat_le, Option, None, Some}
 use Rattle.tsc_text.specs.TextLine.{TextLine, the_word}
 use Rattle.tsc_text.specs.declared.which.Which.TheVariants.{Inputs as InputCount, Outputs as OutputCount, Rows as RowCount}
@@ -20,7 +20,7 @@ type_fault line =
     then (if is_on_type (the_word line 1) || is_free_type (the_word line 1) then None else Some Unsupported)
     else Some Header
 
--- the fault of a row behind so many: it doesn't stand behind both `.i` and `.o`, it has no row's shape, or it is one too many
+-- the fault of a row after so many: it doesn't stand after both `.i` and `.o`, it has no row's shape, or it is one too many
 abbrev pub row_fault : Option ℕ → Option ℕ → ℕ → TextLine → Option Cause
 row_fault (Some inputs) (Some outputs) rows line =
     if has_row_shape inputs outputs line.words then (if nat_le most_rows rows then Some (Limit RowCount) else None) else Some RowShape
@@ -37,14 +37,14 @@ directive_fault InputNames line = long_name (names_of line)
 directive_fault OutputNames line = long_name (names_of line)
 directive_fault _ line = None
 
--- the fault of a line of this kind behind these lines, with the lowest number where it has several
+-- the fault of a line of this kind after these lines, with the lowest number where it has several
 abbrev pub fault_of : List TextLine → LineKind → TextLine → Option Cause
 fault_of before PlanLine line = None
 fault_of before OtherDirective line = Some Unsupported
 fault_of before Row line = row_fault (count_in Inputs before) (count_in Outputs before) (length (rows_of before)) line
 fault_of before kind line = unless_before (has_line kind before) (directive_fault kind line)
 
--- the fault of a line behind these lines
+-- the fault of a line after these lines
 abbrev pub fault_behind : List TextLine → TextLine → Option Cause
 fault_behind before line = fault_of before (kind_of line) line
 

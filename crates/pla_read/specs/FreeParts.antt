@@ -27,6 +27,7 @@ with_nodes p nodes = let N = p.named in record p { named = record N { nodes = N.
 abbrev pub rows_node : List (List ℕ) → List (List ℕ) → Chosen → TableOf → ℕ → NamedNode
 rows_node inputs outs chosen table place = record { reads = inputs; out = text_at outs place; cover = rows_cover chosen table place }
 
+-- the nodes of so many outputs, each with the cover of the rows that are chosen for its output
 abbrev pub rows_nodes : List (List ℕ) → List (List ℕ) → Chosen → TableOf → ℕ → List NamedNode
 rows_nodes inputs outs chosen table count = map (rows_node inputs outs chosen table) (range_with_len 0 count)
 
@@ -39,6 +40,7 @@ abbrev pub gate_node : List (List ℕ) → List (List ℕ) → List (List ℕ) �
 gate_node outs lefts barred place =
     record { reads = text_at lefts place ∷ text_at barred place ∷ []; out = text_at outs place; cover = and_not_cover }
 
+-- the nodes that are 1 where one name is and another isn't, for so many outputs
 abbrev pub gate_nodes : List (List ℕ) → List (List ℕ) → List (List ℕ) → ℕ → List NamedNode
 gate_nodes outs lefts barred count = map (gate_node outs lefts barred) (range_with_len 0 count)
 
@@ -56,10 +58,11 @@ free_named inputs outputs lefts barred table = record {
 abbrev pub fresh_texts : List (List ℕ) → ℕ → ℕ → List (List ℕ)
 fresh_texts names first count = map (fresh_text (free_number names)) (range_with_len first count)
 
--- the names of the nodes behind the outputs: those that tell what rows leave free, and those that tell what rows make 1
+-- the names of the nodes after the outputs: those that tell what rows leave free, and those that tell what rows make 1
 abbrev pub left_names : List (List ℕ) → List (List ℕ) → TableOf → List (List ℕ)
 left_names inputs outputs table = fresh_texts (inputs ++ outputs) 0 table.outputs
 
+-- the names of the nodes that tell what rows make 1
 abbrev pub barred_names : List (List ℕ) → List (List ℕ) → TableOf → List (List ℕ)
 barred_names inputs outputs table = fresh_texts (inputs ++ outputs) table.outputs table.outputs
 

@@ -33,7 +33,7 @@ ones_cover table place = record { width = table.inputs; on = true; rows = ones_a
 abbrev pub value_node : List (List ℕ) → List (List ℕ) → TableOf → ℕ → NamedNode
 value_node inputs outputs table place = record { reads = inputs; out = text_at outputs place; cover = ones_cover table place }
 
--- the network of the values of a table: one node an output, in order
+-- the network of the values of a table: one node per output, in order
 abbrev pub value_named : List (List ℕ) → List (List ℕ) → TableOf → Named
 value_named inputs outputs table = record {
   model = codes "pla";

@@ -19,6 +19,7 @@ cause_refusal line cause.Unsupported = Unsupported line
 cause_refusal line cause.RowShape = RowShape line
 cause_refusal line (cause.Limit which) = Limit line which
 
+-- the refusal of a line with this fault
 abbrev pub line_refusal : LineFault → PlaError
 line_refusal fault = cause_refusal fault.line fault.cause
 

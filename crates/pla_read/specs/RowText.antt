@@ -1,4 +1,4 @@
--- A row of a table as words: what it asks of the inputs, and a character an output.
+-- A row of a table as words: what it asks of the inputs, and one character per output.
 use Rattle.std.specs.Prelude.{ℕ, Bool, false, ◌&&◌, ◌||◌, ◌==◌, List, [], ◌∷◌, length, map}
 use Rattle.std.specs.List.{list_all}
 use Rattle.tsc_cover.specs.Cover.{Literal}

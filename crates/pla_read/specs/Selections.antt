@@ -8,6 +8,7 @@ use Rattle.pla_read.specs.LineKind.{kind_of, same_kind}
 use Rattle.pla_read.specs.declared.kinds.LineKind.{LineKind}
 use Rattle.pla_read.specs.declared.kinds.LineKind.TheVariants.{Inputs, Outputs, CoverType, Row}
 
+-- the line is of the kind
 abbrev pub is_of : LineKind → TextLine → Bool
 is_of kind line = same_kind kind (kind_of line)
 
@@ -15,6 +16,7 @@ is_of kind line = same_kind kind (kind_of line)
 abbrev pub line_of : LineKind → List TextLine → Option TextLine
 line_of kind lines = find (is_of kind) lines
 
+-- there is a line of the kind
 abbrev pub has_line : LineKind → List TextLine → Bool
 has_line kind lines = is_some (line_of kind lines)
 
@@ -26,6 +28,7 @@ count_in kind lines = option_map number_in (line_of kind lines)
 abbrev pub inputs_of : List TextLine → ℕ
 inputs_of lines = unwrap_or (count_in Inputs lines) 0
 
+-- how many outputs the lines state
 abbrev pub outputs_of : List TextLine → ℕ
 outputs_of lines = unwrap_or (count_in Outputs lines) 0
 
@@ -37,6 +40,7 @@ rows_of lines = filter (is_of Row) lines
 abbrev pub is_on_type : List ℕ → Bool
 is_on_type word = bytes_eq word (codes "f")
 
+-- the word names the type fd
 abbrev pub is_free_type : List ℕ → Bool
 is_free_type word = bytes_eq word (codes "fd")
 
@@ -45,5 +49,6 @@ abbrev pub frees_at : Option TextLine → Bool
 frees_at None = true
 frees_at (Some line) = is_free_type (the_word line 1)
 
+-- `-` among the outputs of the lines says that they are free
 abbrev pub frees_of : List TextLine → Bool
 frees_of lines = frees_at (line_of CoverType lines)

@@ -1,4 +1,4 @@
--- Covers that are made of the rows of a table, one an output.
+-- Covers that are made of the rows of a table, one per output.
 use Rattle.std.specs.Prelude.{◌≡◌, ℕ, ◌<◌, ◌≤◌, Bool, true, false, if◌then◌else◌, List, [], ◌∷◌, ◌++◌, length, slice_index_or}
 use Rattle.tsc_cover.specs.Cover.{CoverTable}
 use Rattle.tsc_cover.specs.Row.{literals_of}

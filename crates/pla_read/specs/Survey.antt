@@ -11,7 +11,7 @@ use Rattle.pla_read.specs.declared.survey.Survey.{Survey}
 abbrev pub survey_of : List TextLine → Survey
 survey_of lines = record { inputs = count_in Inputs lines; outputs = count_in Outputs lines; rows = length (rows_of lines) }
 
--- what is seen behind one more line of this kind
+-- what is seen after one more line of this kind
 abbrev pub survey_behind : Survey → LineKind → TextLine → Survey
 survey_behind survey Inputs line = record survey { inputs = Some (number_in line) }
 survey_behind survey Outputs line = record survey { outputs = Some (number_in line) }

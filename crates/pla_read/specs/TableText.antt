@@ -17,7 +17,7 @@ pub record TableOf : Type 0 where
 abbrev pub table_text : List TextLine → TableOf
 table_text lines = record { inputs = inputs_of lines; outputs = outputs_of lines; rows = map (row_at (frees_of lines)) (rows_of lines) }
 
--- each row has a literal an input
+-- each row has one literal per input
 abbrev pub AreWide : TableOf → Type 0
 AreWide table = All (λ (row : TableRow). length row.input ≡ table.inputs) table.rows
 

@@ -46,7 +46,7 @@ fn add_inputs(parts: &mut Parts, names: &[Bytes]) -> Result<(), AllocError>
     Ok(())
 }
 
-/// Adds outputs behind inputs.
+/// Adds outputs after inputs.
 fn add_outputs(
     alloc: Global,
     parts: &mut Parts,

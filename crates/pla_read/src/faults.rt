@@ -1,4 +1,4 @@
-//! What is refused of a line, behind the lines before it.
+//! Why a line is refused, after the lines before it.
 ghost use Rattle.std.specs.Prelude.{◌≡◌, ◌<◌, length, take};
 ghost use Rattle.std.specs.List.{list_all};
 ghost use Rattle.tsc_text.specs.TextLine.{the_line};
@@ -12,7 +12,7 @@ use crate::survey::Survey;
 use table_lines::{Cause, MOST_ROWS, count_fault, is_pattern, is_word, long_name, read_fault};
 use tsc_text::{SectionLines, TextLine, Which};
 
-/// The fault of the line at a place behind those before it, with the lowest number where it has several. It takes no memory.
+/// The fault of the line at a place after those before it, with the lowest number where it has several. It takes no memory.
 pub fn fault_at(survey: &Survey, section: &SectionLines, place: usize) -> Option<Cause>
     requires place { place < length section.now }
     requires survey { survey.now ≡ survey_of (take place section.now) }

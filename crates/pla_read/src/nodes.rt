@@ -1,4 +1,4 @@
-//! The nodes of the networks, one an output.
+//! The nodes of the networks, one per output.
 ghost use Rattle.std.specs.Prelude.{◌≡◌, ◌<◌, ◌∷◌, [], length, slice_index_or, slice_set, All, IfOk, OnOk};
 ghost use Rattle.tsc_cover.specs.Cover.{CoverTable};
 ghost use Rattle.tsc_net.specs.Parts.{with_node};
@@ -47,7 +47,7 @@ fn add_cover_node(
     parts.node(reads, out, cover)
 }
 
-/// Adds a node an output, over all inputs, whose cover has the rows that are chosen for the output.
+/// Adds one node per output, over all inputs, whose cover has the rows that are chosen for the output.
 pub fn add_rows_nodes(
     alloc: Global,
     parts: &mut Parts,
@@ -93,7 +93,7 @@ fn add_gate_node(
     parts.node(reads, out, cover)
 }
 
-/// Adds such a node an output.
+/// Adds one such node per output.
 pub fn add_gate_nodes(
     alloc: Global,
     parts: &mut Parts,

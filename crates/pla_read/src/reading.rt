@@ -184,7 +184,8 @@ fn no_heading(section: &SectionLines) -> PlaError
     }
 }
 
-/// What a section denotes.
+/// What a section denotes, with a name for each of its inputs and outputs, at most 64 of each. The names are all different, and each has
+/// at most 255 bytes.
 ///
 /// # Errors
 ///

@@ -28,7 +28,7 @@ pub struct Heading {
     pub frees: bool,
 }
 
-/// A row: what it asks of the inputs, and two numbers with a bit an output, the first most significant.
+/// A row: what it asks of the inputs, and two numbers with one bit per output, the first most significant.
 #[derive(Clone, Copy)]
 pub struct PlaRow {
     /// What it asks of the inputs.

@@ -12,7 +12,7 @@ use std::alloc::{AllocError, Global};
 use tsc_cover::{Cover, Row01};
 use tsc_io::Items;
 
-/// Covers, one an output.
+/// Covers, one per output.
 pub type CoverList = Items<Cover>;
 
 /// The first place from `from` on and below `places` at which a number has a bit, the first most significant; `places` where there is none.
@@ -99,7 +99,7 @@ fn push_at_bits(covers: &mut CoverList, row: Row01, number: u64) -> Result<(), A
     Ok(())
 }
 
-/// The on-set covers of the rows that have the mark, one an output, in order, at those outputs for which `within` has a bit; at the
+/// The on-set covers of the rows that have the mark, one per output, in order, at those outputs for which `within` has a bit; at the
 /// others a cover without rows.
 ///
 /// # Errors

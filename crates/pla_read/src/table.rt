@@ -33,7 +33,7 @@ pub enum Chosen {
     OnesBesideFree,
 }
 
-/// At which outputs some row has the mark, as a number with a bit an output.
+/// At which outputs some row has the mark, as a number with one bit per output.
 fn some_marks(rows: &[PlaRow], mark: Mark) -> u64
     ensures some { (inputs outputs place : ℕ) → place < outputs → bit (bits_of outputs result) place ≡ nat_lt 0 (length (marked_at mark (map (row_as inputs outputs) rows.now) place)) }
 {
@@ -45,7 +45,7 @@ fn some_marks(rows: &[PlaRow], mark: Mark) -> u64
 }
 
 impl Table {
-    /// The on-set covers of the rows that have the mark, one an output, at those outputs for which `within` has a bit; at the others
+    /// The on-set covers of the rows that have the mark, one per output, at those outputs for which `within` has a bit; at the others
     /// without rows.
     fn marked(&self, alloc: Global, mark: Mark, within: u64) -> Result<CoverList, AllocError>
         requires fit { IsTable self.now }
@@ -61,7 +61,7 @@ impl Table {
         )
     }
 
-    /// The on-set covers of the rows that are chosen for the outputs, one an output. It goes over the rows twice, and over what they mark.
+    /// The on-set covers of the rows that are chosen for the outputs, one per output. It goes over the rows twice, and over what they mark.
     ///
     /// # Errors
     ///

@@ -197,6 +197,7 @@ module _ (N : Circuit) (P : CodePlan) (sound : HasSoundStructure N P) (cell : â„
         ];
       }
 
+-- what has sound structure and follows its source is secure at its points
 pub sound_is_secure_at_points : SoundIsSecureAtPoints
 sound_is_secure_at_points M N P sound follows = record {
   quiet = Î» q x alarm.

@@ -47,12 +47,14 @@ module _ (N : Circuit) (P : CodePlan) (plan : IsPlanOf N P) (heard : IsHeardAtPo
     heard = λ cell s x v u is r settled held differ. (let t = trace s r in heard_at cell t.0 s x v u is t.1 settled held differ);
   }
 
+-- what follows its source and is heard at its points is alarm-secure, whatever its structure
 pub heard_at_points_is_alarm_secure : HeardAtPointsIsAlarmSecure
 heard_at_points_is_alarm_secure M N P plan acyclic follows heard =
     heard_where_reached_is_alarm_secure M N P acyclic (follows_where_reached M N P follows) (heard_where_traced N P plan heard (reached_is_traced M N P follows))
 
 -- ---- weaker than secure against any one failing cell
 
+-- what is secure at its points is heard at its points
 pub secure_at_points_is_heard : SecureAtPointsIsHeard
 secure_at_points_is_heard N P secure = record {
   quiet = secure.quiet;
@@ -68,6 +70,7 @@ secure_at_points_is_heard N P secure = record {
   });
 }
 
+-- what is secure against any one failing cell is alarm-secure
 pub cell_secure_is_alarm_secure : CellSecureIsAlarmSecure
 cell_secure_is_alarm_secure M N P secure = record {
   one_run = secure.one_run;
@@ -77,6 +80,7 @@ cell_secure_is_alarm_secure M N P secure = record {
   alarmed = λ cell w xs vs us is run held. (secure.flagged cell w xs vs us is run held).no_silent_error;
 }
 
+-- where a cell fails unheard at a listed state to which a run comes, the netlist isn't one that is secure against any one failing cell
 pub unheard_is_insecure : UnheardIsInsecure
 unheard_is_insecure M N P cell q x s is is_state r a secure = silent_is_insecure M N P cell q x s is is_state r (record {
   right = a.right;
@@ -91,6 +95,7 @@ unheard_is_insecure M N P cell q x s is is_state r a secure = silent_is_insecure
 
 -- ---- stems
 
+-- a cell fails unheard at a point exactly where its stem, held at one of the two bits, is unheard there
 pub unheard_stems_decide : UnheardStemsDecide
 unheard_stems_decide N P cell q x is = (
   λ a. (
@@ -137,6 +142,7 @@ unheard_stem_is_wrong N P cell q held x right acyclic is a step = other_bit (bit
 
 -- ---- listed faults
 
+-- with one listed fault, present at any steps, no wrong output of what is alarm-secure comes before its alarm
 pub alarm_secure_for_faults : AlarmSecureForFaults
 alarm_secure_for_faults M N P f w xs vs us secure listed run held =
     let failing = listed_faults_are_failing_cells N f w xs us listed held in
@@ -176,6 +182,7 @@ no_next : (v u : List Bool) (ls : List LatchOf) → length ls ≡ 0 → map (bit
 no_next v u [] none = refl
 no_next v u (l ∷ ls) none = absurd (omega arith)
 
+-- without latches, where the source allows one list of outputs, alarm-secure is following and heard at its points, and the other way
 pub networks_are_decided_by_alarms : NetworksAreDecidedByAlarms
 networks_are_decided_by_alarms M N P one plan acyclic none = (
   λ secure. let follows = follows_reached M N P secure.follows secure.quiet in (

@@ -52,6 +52,7 @@ small_acyclic = record { rank = λ net. net; ranks = record { above = each_pin s
 small_decided : FollowsSource (Network small_source) small_netlist small_plan × IsSecureAtPoints small_netlist small_plan
 small_decided = (networks_are_decided (Network small_source) small_netlist small_plan (plan_of (gate buf_cover (4 ∷ []))) small_acyclic refl).0 small_is_cell_secure
 
+-- the small netlist is secure at its points
 pub small_is_secure_at_points : SmallIsSecureAtPoints
 small_is_secure_at_points = small_decided.1
 

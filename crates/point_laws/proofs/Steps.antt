@@ -15,6 +15,7 @@ use Rattle.fault_secure.proofs.ListedStates.{has_word_like}
 use Rattle.point_laws.specs.Points.{IsStepAt, IsStepButAt}
 
 module _ (N : Circuit) (x y s t : ℕ → Bool) (same_inputs : (i : ℕ) → i < N.inputs → x i ≡ y i) (same_states : (l : ℕ) → l < length N.latches → s l ≡ t l) where
+  -- what settles with some input and state bits settles with others that are the same at each input and latch
   pub settles_like : (f : StuckAt) (v : List Bool) → Settles N f x s v → Settles N f y t v
   settles_like f v h = record {
     sized = h.sized;
@@ -102,5 +103,6 @@ one_state P s t none =
 
 -- ---- the stem of a cell is listed
 
+-- the stem of a cell, held at either bit, is a listed fault
 pub stem_listed : (N : Circuit) (cell : ℕ) (held : Bool) → IsCell N cell → IsTrue (is_listed N (Stem cell held))
 stem_listed N cell held is = ap₂ ◌&&◌ (le-leb N.inputs cell is.no_input) (lt-ltb cell (nets N) is.inside)

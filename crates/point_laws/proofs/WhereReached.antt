@@ -162,6 +162,7 @@ module _ (M : Logic) (N : Circuit) (P : CodePlan) (follows : (w : List Bool) (xs
     codewords = λ s x v r h. (quiet_at s x v r h).codeword;
   }
 
+  -- at the states that runs come to, the rails differ without a fault
   pub quiet_reached : IsQuietWhereReached N P
   quiet_reached s x v r h = (quiet_at s x v r h).rails_differ
 

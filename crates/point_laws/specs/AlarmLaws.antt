@@ -49,7 +49,7 @@ pub record SourcesAllowOneOutput : Type 0 where
   pub table : (T : StateTable) (version : ℕ) → (version ≡ 2 → ⊥) → AllowsOneOutput (States T) version
   pub loose : (V F : Circuit) (version : ℕ) → Acyclic V → (version ≡ 2 → ⊥) → AllowsOneOutput (Loose V F) version
 
--- where a run comes to the word of a listed state at which a cell fails unheard, the netlist isn't secure against any one failing cell
+-- where a run comes to the word of a listed state at which a cell fails unheard, the netlist isn't one that is secure against any one failing cell
 abbrev pub UnheardIsInsecure : Type 0
 UnheardIsInsecure = (M : Logic) (N : Circuit) (P : CodePlan) (cell q : ℕ) (x s : List Bool) → IsCell N cell → word_of_state P q ≡ Some s → IsReached N s
     → IsUnheardAt N P cell q x → IsCellSecure M N P → ⊥

@@ -56,7 +56,7 @@ pub record IsWrongUnheardAt (M : Logic) (N : Circuit) (P : CodePlan) (cell q : �
   pub not_allowed : AllowsOutputs M P.version q x (outputs_in N P wrong) → ⊥
   pub rails_differ : RailsAgree P wrong → ⊥
 
--- alarm-secure: as secure against any one failing cell, but for what is asked of the first wrong word. With one failing cell no wrong
+-- alarm-secure: as secure against any one failing cell, except for what is asked of the first wrong word. With one failing cell no wrong
 -- output comes before its alarm
 pub record IsAlarmSecure (M : Logic) (N : Circuit) (P : CodePlan) : Type 0 where
   pub one_run : (w : List Bool) (xs : List (List Bool)) → length w ≡ length xs → HasOneRun N NoFault w xs

@@ -12,7 +12,7 @@ use Rattle.mapping_laws.specs.Mapping.{IsMapped, moved_plan}
 use Rattle.mapping_laws.specs.FailingBlock.{RunsButBlock, HasOneRunButBlock}
 use Rattle.point_laws.specs.Heard.{IsAlarmSecure}
 
--- alarm-secure against any one failing block or latch: as secure against it, but for what is asked of the first wrong word
+-- alarm-secure against any one failing block or latch: as secure against it, except for what is asked of the first wrong word
 pub record IsBlockAlarmSecure (M : Logic) (N G : Circuit) (block : ℕ → ℕ) (P : CodePlan) : Type 0 where
   pub blocks : (g : ℕ) → g < length G.nodes → block g < length N.nodes
   pub one_run : (w : List Bool) (xs : List (List Bool)) → length w ≡ length xs → HasOneRun G NoFault w xs

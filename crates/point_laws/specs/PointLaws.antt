@@ -28,7 +28,7 @@ abbrev pub DecidedWhereReached : Type 0
 DecidedWhereReached = (M : Logic) (N : Circuit) (P : CodePlan) → Acyclic N
     → IsCellSecure M N P ↔ (FollowsWhereReached M N P × IsSecureWhereReached N P)
 
--- where a run comes to the word of a listed state at which a cell fails silently, the netlist isn't secure
+-- where a run comes to the word of a listed state at which a cell fails silently, the netlist isn't one that is secure against any one failing cell
 abbrev pub SilentIsInsecure : Type 0
 SilentIsInsecure = (M : Logic) (N : Circuit) (P : CodePlan) (cell q : ℕ) (x s : List Bool) → IsCell N cell → word_of_state P q ≡ Some s → IsReached N s
     → IsSilentAt N P cell q x → IsCellSecure M N P → ⊥

@@ -9,7 +9,7 @@ use Rattle.fault_secure.specs.Logic.{Logic, reset_of}
 use Rattle.fault_secure.specs.FailingCell.{IsCell, SettlesBut}
 use Rattle.fault_secure.specs.FaultSecure.{state_at, StepFollows, Shows}
 
--- the state bits behind the steps of a run without a fault
+-- the state bits after the steps of a run without a fault
 abbrev pub state_after : Circuit → List Bool → List (List Bool) → List Bool
 state_after N s [] = s
 state_after N s (v ∷ vs) = state_after N (next_state N NoFault v) vs
@@ -22,7 +22,7 @@ pub record IsReached (N : Circuit) (s : List Bool) : Type 0 where
   pub runs : Runs N NoFault marks inputs run
   pub arrives : state_after N (init_state N) run ≡ s
 
--- it starts at the reset state, and at each state bits that a run comes to its steps follow the source, with codewords
+-- it starts at the reset state, and from all state bits that a run comes to its steps follow the source, with codewords
 pub record FollowsWhereReached (M : Logic) (N : Circuit) (P : CodePlan) : Type 0 where
   pub starts : state_at P (init_state N) ≡ Some (reset_of M)
   pub steps : (s x v : List Bool) → IsReached N s → Settles N NoFault (bit x) (bit s) v → StepFollows M N P s x v

@@ -36,7 +36,7 @@ idle_check = record {
 abbrev pub CheckIsSilent : Type 0
 CheckIsSilent = IsSilentAt idle_check small_plan 4 0 (false ∷ false ∷ [])
 
--- so the netlist is alarm-secure, and isn't secure against any one failing cell: alarm-secure is weaker
+-- so the netlist is alarm-secure, and isn't one that is secure against any one failing cell: alarm-secure is weaker
 pub record IsWeaker : Type 0 where
   pub alarm_secure : IsAlarmSecure (Network small_source) idle_check small_plan
   pub not_secure : IsCellSecure (Network small_source) idle_check small_plan → ⊥

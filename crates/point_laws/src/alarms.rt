@@ -32,7 +32,7 @@ pub fn sources_allow_one_output()
     ensures one { SourcesAllowOneOutput }
 {}
 
-/// Where a run comes to the state of a point at which a cell fails unheard, the netlist isn't secure against that cell.
+/// Where a run comes to the state of a point at which a cell fails unheard, the netlist isn't one that is secure against any one failing cell.
 pub fn unheard_is_insecure()
     ensures insecure { UnheardIsInsecure }
 {}
@@ -43,7 +43,7 @@ pub fn wrong_unheard_is_insecure()
 {}
 
 /// A cell fails unheard at a point exactly where its stem does, held at one of the two bits: that which its net hasn't there without a
-/// fault, so that one try a cell and point is enough.
+/// fault, so that one try per cell and point is enough.
 pub fn unheard_stems_decide()
     ensures decide { UnheardStemsDecide }
     ensures wrong { UnheardStemIsWrong }

@@ -12,7 +12,7 @@ pub fn networks_are_decided()
     ensures decided { NetworksAreDecided }
 {}
 
-/// Where a run comes to the state of a point at which a cell fails silently, the netlist isn't secure against that cell.
+/// Where a run comes to the state of a point at which a cell fails silently, the netlist isn't one that is secure against any one failing cell.
 pub fn silent_is_insecure()
     ensures insecure { SilentIsInsecure }
 {}

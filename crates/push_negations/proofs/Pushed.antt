@@ -166,6 +166,7 @@ six-most (gate.And a b) = omega arith
 six-most (gate.Or a b) = omega arith
 six-most (gate.Xor a b) = omega arith
 
+-- pushing negations makes at most six lines for each of some gates
 pub six-times : (gates : List Gate) → sum_by most_lines gates ≤ 6 * length gates
 six-times [] = omega arith
 six-times (g ∷ gates) = let rest = six-times gates in let all = sum_by-cons most_lines g gates in let one = six-most g in omega (arith, rest, all, one)

@@ -11,7 +11,7 @@ use crate::phases::Phases;
 use gate_net::{Gate, Gates, Line};
 use std::alloc::AllocError;
 
-/// Adds a gate that negates nothing but an input.
+/// Adds a gate that negates nothing except an input.
 #[tactic(auto, using(crate::proofs::Lines::grown_by_gate, crate::proofs::Lines::means_added))]
 fn add_normal(made: &mut Gates, gate: Gate) -> Result<Line, AllocError>
     requires normal { IsNormal made.old }
@@ -24,7 +24,7 @@ fn add_normal(made: &mut Gates, gate: Gate) -> Result<Line, AllocError>
     made.add(gate)
 }
 
-/// Adds two gates, neither of which negates anything but an input or reads the other.
+/// Adds two gates, neither of which negates anything except an input or reads the other.
 #[tactic(auto, using(crate::proofs::Lines::grown_twice, crate::proofs::Lines::means_kept, crate::proofs::Lines::means_gate, crate::proofs::Lines::reads_kept, crate::proofs::Lines::negation_kept))]
 fn add_both(made: &mut Gates, positive: Gate, negative: Gate) -> Result<Phases, AllocError>
     requires normal { IsNormal made.old }

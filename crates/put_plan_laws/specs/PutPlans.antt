@@ -61,7 +61,7 @@ pub record KeepsMapping (lines bare others : List TextLine) : Type 0 where
 abbrev pub PutPlanLinesKeepMappings : Type 0
 PutPlanLinesKeepMappings = (lines bare others : List TextLine) → ArePutBeside lines bare others → KeepsMapping lines bare others
 
--- and where it read so, and the first netlist with its plan is secure against any one failing cell, it is secure with the plan that it
+-- and let it read so, and the first netlist with its plan be secure against any one failing cell. Then it is secure with the plan that it
 -- now states, against any gates of one block that fail at once, any one cell and each listed fault
 abbrev pub AuditedNetlistsTakePlans : Type 0
 AuditedNetlistsTakePlans = (M : Logic) (lines bare others : List TextLine) (P Q : CodePlan) → ArePutBeside lines bare others
@@ -71,7 +71,7 @@ AuditedNetlistsTakePlans = (M : Logic) (lines bare others : List TextLine) (P Q 
     → IsSecureInAll M (section_net lines).circuit (section_net others).circuit (some_block (section_net lines).circuit (slice_index read.blocks)) Q
 
 -- so it is of a text whose second netlist is a mapping of the first, as a yes of `audit mapped` says: a section with the other lines of
--- the second one and the plan lines of the first is refused by nothing as a netlist with its plan, and where the first netlist with its
+-- the second one and the plan lines of the first is refused by nothing as a netlist with its plan. Where the first netlist with its
 -- plan is secure against any one failing cell, that section's netlist is so with the plan that it states
 abbrev pub AuditedTextsTakePlans : Type 0
 AuditedTextsTakePlans = (M : Logic) (text : List ℕ) (others : List TextLine) (Q : CodePlan) → mapped_refusal text ≡ None

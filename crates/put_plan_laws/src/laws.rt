@@ -23,8 +23,8 @@ pub fn put_plan_lines_keep_mappings()
     ensures kept { PutPlanLinesKeepMappings }
 {}
 
-/// A law: and it is secure with the plan that it now states, for whatever the first netlist with its plan is secure for against any one cell:
-/// against any gates of one block that fail at once, any one cell, and each listed fault.
+/// A law: and it is secure with the plan that it now states, for whatever the first netlist with its plan is secure for against any one cell.
+/// It is so against any gates of one block that fail at once, any one cell, and each listed fault.
 pub fn audited_netlists_take_plans()
     ensures secure { AuditedNetlistsTakePlans }
 {}

@@ -55,10 +55,11 @@ table_most_of _ = table_limit.most_ports
 abbrev pub most_text : ℕ → Which → List ℕ
 most_text most which = codes "limit: " ++ (decimal most ++ (codes " " ++ which_text which))
 
+-- `limit: NUMBER WHICH` for a BLIF text of this kind, with the greatest count of the quantity
 abbrev pub limit_text : Kind → Which → List ℕ
 limit_text kind which = most_text (most_of kind which) which
 
--- each name behind a blank
+-- each name after a blank
 abbrev pub blanked : List (List ℕ) → List ℕ
 blanked [] = []
 blanked (name ∷ names) = 32 ∷ (name ++ blanked names)

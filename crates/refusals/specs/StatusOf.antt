@@ -20,7 +20,7 @@ net_status NoOutputs = BadInput
 net_status (Cycle nets) = BadInput
 net_status (NetMemory error) = Memory
 
--- a BLIF text that is refused is a bad input, but for limits and want of memory
+-- a BLIF text that is refused is a bad input, except for limits and want of memory
 abbrev pub blif_status : BlifError → Status
 blif_status (Unsupported line) = BadInput
 blif_status (WordCount line) = BadInput
@@ -36,13 +36,13 @@ blif_status NoPlan = BadInput
 blif_status (PlanName line) = BadInput
 blif_status (BlifMemory error) = Memory
 
--- a machine that is refused is a bad input, but for limits and want of memory
+-- a machine that is refused is a bad input, except for limits and want of memory
 abbrev pub kiss_status : KissError → Status
 kiss_status (kiss.Limit line which) = Limit
 kiss_status (kiss.Memory error) = Memory
 kiss_status _ = BadInput
 
--- a table that is refused is a bad input, but for limits and want of memory
+-- a table that is refused is a bad input, except for limits and want of memory
 abbrev pub pla_status : PlaError → Status
 pla_status (pla.Limit line which) = Limit
 pla_status (pla.Memory error) = Memory

@@ -207,7 +207,7 @@ fn push_two(out: &mut Bytes, first: &[u8], second: &Bytes) -> Result<(), AllocEr
     out.append(second.as_slice())
 }
 
-/// Appends `cycle:`, and each name behind a blank.
+/// Appends `cycle:`, and each name after a blank.
 fn push_cycle(out: &mut Bytes, nets: &NameTexts) -> Result<(), AllocError>
     ensures text { OnOk result (out.new ≡ out.old ++ net_text (NetError.Cycle nets.now)) }
 {

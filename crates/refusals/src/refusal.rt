@@ -30,11 +30,11 @@ pub enum Refusal {
     Kiss(KissError),
     /// A table of a network with free bits is refused.
     Pla(PlaError),
-    /// A line is left over behind the last section.
+    /// A line is left over after the last section.
     AfterTheEnd { line: usize },
     /// The fault is not listed.
     NotListed,
-    /// A line behind the netlist is no step's.
+    /// A line after the netlist is no step's.
     StepShape { line: usize },
     /// A machine has more than 924 states.
     TooManyStates,
@@ -42,7 +42,7 @@ pub enum Refusal {
     TooLarge,
     /// A netlist has more than 65,536 points to be tried.
     TooManyPoints,
-    /// No line stands behind the source of an audit.
+    /// No line stands after the source of an audit.
     NoNetlist,
     /// The source of an audit has more than 1,048,576 points to be tried.
     TooManyAuditPoints,

@@ -15,7 +15,7 @@ const Q: &[u8] =
 /// An output that is 0.
 const ZERO: &[u8] = b".model model\n.outputs y\n.names y\n.end\n";
 
-/// The words, the source, the netlist behind it, the status, and the line of the verdict.
+/// The words, the source, the netlist after it, the status, and the line of the verdict.
 pub type Audit = (
     &'static [u8],
     &'static [u8],

@@ -233,7 +233,7 @@ fn machines_are_written_and_run(rt: HostRuntime) -> Result<(), Fail> {
 }
 
 /// Syntheses, and how many covers they write: each gate of the word once and no buffer for an output or a check, and the checker's
-/// gates. Of the and gate these are a negation for each input, an And and an Or in the word, and behind it two buffers for the
+/// gates. Of the and gate these are a negation for each input, an And and an Or in the word, and after it two buffers for the
 /// rails, to which the counter of a Berger code adds two negations.
 static COVERS: [(&[u8], &[u8], usize); 4] = [
     (b"synth blif parity", AND2, 5),

@@ -108,7 +108,7 @@ fn the_sink_is_full(rt: HostRuntime) -> Result<(), Fail> {
     Ok(())
 }
 
-/// The words of each command, its text, and what is read behind it.
+/// The words of each command, its text, and what is read after it.
 static COMMANDS: [(&[u8], &[u8], &[u8]); 16] = [
     (b"synth blif berger", AND2, b""),
     (b"synth kiss mofn", TWO_STATES, b""),

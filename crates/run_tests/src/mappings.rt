@@ -1,4 +1,4 @@
-//! Runs of `audit mapped`: the answer on a netlist behind another one, as it is worked out by hand, and what is refused.
+//! Runs of `audit mapped`: the answer on a netlist after another one, as it is worked out by hand, and what is refused.
 
 use crate::audits::{Audit, first_not_audited};
 use crate::runs::{Refused, first_not_refused};

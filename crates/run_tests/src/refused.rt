@@ -451,7 +451,7 @@ fn netlists_are_refused(rt: HostRuntime) -> Result<(), Fail> {
     Ok(())
 }
 
-/// A text that is made, and what it comes to: the words, a head, an item and how often it stands behind it, the status and the note.
+/// A text that is made, and what it comes to: the words, a head, an item and how often it stands after it, the status and the note.
 pub type Made = (
     &'static [u8],
     &'static [u8],

@@ -4,10 +4,10 @@ use std::alloc::{AllocError, Global};
 use tsc_io::{Bytes, CallList, MemSink, MemSource, Source, Words};
 use tsc_tool::{Status, run};
 
-/// What is done: the words, the text that is read, what is read behind it, and what is written.
+/// What is done: the words, the text that is read, what is read after it, and what is written.
 pub type Done = (&'static [u8], &'static [u8], &'static [u8], &'static [u8]);
 
-/// What is refused: the words, the text that is read, what is read behind it, the status and the note.
+/// What is refused: the words, the text that is read, what is read after it, the status and the note.
 pub type Refused = (
     &'static [u8],
     &'static [u8],

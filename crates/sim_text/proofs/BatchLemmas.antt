@@ -16,7 +16,7 @@ pub fits_on : (lists xs : List (List Bool)) (place step : ℕ) → All (FitsEach
 fits_on lists xs place step fits inside below k within =
     sym (fits_step lists xs place step [] fits inside below) ∙ fits_step lists xs place k [] fits inside within
 
--- steps from a place on, and those behind them
+-- steps from a place on, and those after them
 pub steps_apart : (xs ys : List (List Bool)) (first : ℕ) → ys ≡ take (length ys) (drop first xs) → drop first xs ≡ ys ++ drop (first + length ys) xs
 steps_apart xs ys first are =
     sym (take-append-drop (length ys) (drop first xs))

@@ -39,7 +39,7 @@ none_left N f s (v ∷ vs) runs = elim runs [ ]
 
 -- ---- one step
 
--- what is left of a run behind a step, and the lines of the run
+-- what is left of a run after a step, and the lines of the run
 record StepOn (widths : Widths) (old new : SimState) (rest vs : List (List Bool)) (view : StepView) : Type 0 where
   left : List (List Bool)
   runs : RunsOn new rest left
@@ -174,7 +174,7 @@ module _ (old new : SimState) (j k s t : ℕ) (xs rest : List (List Bool)) (befo
       let p : IsCut before after (lines_on (sim_at new j s) vs) = fails vs (rw (still.same.circuit, still.same.fault, still.same.when) runs) in
       rw (still.same.circuit, still.same.plan) at p
 
--- a batch behind the steps before it
+-- a batch after the steps before it
 module _ (initial sim : SimState) (first n : ℕ) (xs ys : List (List Bool)) (before mid after : Output) (still : IsStill initial sim)
     (are : drop first xs ≡ ys ++ drop (first + length ys) xs) (took : TakesTo initial (sim_at initial first 0) xs (drop first xs) before mid) where
   pub batch_takes : n ≡ length ys → TakesTo (sim_at sim first 0) (sim_at sim (first + length ys) 0) (ys ++ drop (first + length ys) xs) (drop (first + length ys) xs) mid after

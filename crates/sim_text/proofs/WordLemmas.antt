@@ -28,7 +28,7 @@ pub bits_all : (goal made : List Bool) (n : ℕ) → n ≡ length goal → lengt
 bits_all goal made n count sized all =
     sym (take-length made) ∙ (ap (λ (k : ℕ). take k made) (sized ∙ sym count) ∙ written_all goal made n count all)
 
--- ---- the digits of a word behind its blank
+-- ---- the digits of a word after its blank
 
 pub length-word : (n x : ℕ) → length (32 ∷ map digit (bits_of n x)) ≡ n + 1
 length-word n x = let e = length-map (bits_of n x) digit in let h = length-bits_of n x in omega arith

@@ -27,7 +27,7 @@ bits_word (b ∷ bits) = map digit (b ∷ bits)
 abbrev pub verdict : Bool → Bool → List ℕ
 verdict rail1 rail2 = if same rail1 rail2 then codes "alarm" else codes "quiet"
 
--- the end of a line: the rails and the verdict, each behind a blank, and an LF
+-- the end of a line: the rails and the verdict, each after a blank, and an LF
 abbrev pub rails_end : Bool → Bool → List ℕ
 rails_end rail1 rail2 = 32 ∷ digit rail1 ∷ digit rail2 ∷ 32 ∷ (verdict rail1 rail2 ++ 10 ∷ [])
 
@@ -51,7 +51,7 @@ step_bits N P v = record {
 abbrev pub step_line : Circuit → CodePlan → ℕ → List Bool → List ℕ
 step_line N P step v = line_of step (step_bits N P v)
 
--- a line a valuation, the first step having the number `step`
+-- one line per valuation, the first step having the number `step`
 abbrev pub run_lines : Circuit → CodePlan → ℕ → List (List Bool) → List ℕ
 run_lines N P step [] = []
 run_lines N P step (v ∷ vs) = step_line N P step v ++ run_lines N P (step + 1) vs

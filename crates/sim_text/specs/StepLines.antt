@@ -1,13 +1,14 @@
--- The step lines behind a netlist: one word of as many bits as the netlist has inputs, or `.` where it has none.
+-- The step lines after a netlist: one word of as many bits as the netlist has inputs, or `.` where it has none.
 use Rattle.std.specs.Prelude.{ℕ, ◌==◌, Bool, not, ◌&&◌, ◌||◌, if◌then◌else◌, List, [], ◌∷◌, codes, length, map, Option, None, Some}
 use Rattle.std.specs.List.{list_all}
 use Rattle.std.specs.Str.{bytes_eq}
 use Rattle.tsc_text.specs.TextLine.{TextLine, the_word}
 
--- a character `0` or `1`, and the bit that it is
+-- the character is `0` or `1`
 abbrev pub is_bit : ℕ → Bool
 is_bit character = character == 48 || character == 49
 
+-- the bit that a character stands for: `1` is true, any other is false
 abbrev pub bit_of : ℕ → Bool
 bit_of character = character == 49
 

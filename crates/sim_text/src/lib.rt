@@ -1,5 +1,5 @@
 //! A simulation as the lines that are printed.
-//! Its main call is `simulate`, which runs a netlist over the step lines of a text and prints a line a step, as it comes to it.
+//! Its main call is `simulate`, which runs a netlist over the step lines of a text and prints one line per step, as it comes to it.
 //! It stands on `fault_sim` (a netlist step by step), `tsc_net` (netlists, plans, faults), `fault_secure` (runs), `tsc_text` (the
 //! lines of a text) and `buffered_sink` (printing).
 //! Its main promise: what is printed is the text of the one run over the steps, under the fault at the steps at which it is

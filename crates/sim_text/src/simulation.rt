@@ -21,14 +21,14 @@ use std::alloc::Global;
 use tsc_io::Sink;
 use tsc_net::{Fault, Netlist, Plan, When};
 
-/// Runs the netlist over the steps, and prints a line a step: its number from 0 on, the outputs, the checks, the nets at the
+/// Runs the netlist over the steps, and prints one line per step: its number from 0 on, the outputs, the checks, the nets at the
 /// latch inputs, the rails, and `quiet` where these differ, else `alarm`. The fault, if there is one, is present at the steps of
 /// `when`.
 ///
 /// Time is linear in the number of steps. All memory is had before the first line is printed, and how much it is doesn't grow
 /// with that number. Without latches at most 1,024 steps settle at once, and that takes memory for their input bits, at most
 /// 16 MiB, and for what they show. With latches, where there are at most 16 inputs and latches and that takes less time, what a
-/// step shows and leaves is worked out once from each state over each input, and that takes memory for so many steps, at most
+/// step shows and leaves is worked out once from each state over each input. That takes memory for so many steps, at most
 /// 65,536; with a fault for twice as many. Else each step settles on its own.
 ///
 /// # Errors

@@ -9,7 +9,7 @@ use tsc_cover::bit_at;
 /// The most characters that a word has with the blank before it.
 const MOST: usize = 65;
 
-/// A blank and a word of bits behind it, at most 65 characters, which take no memory elsewhere. Contracts see it as these characters.
+/// A blank and a word of bits after it, at most 65 characters, which take no memory elsewhere. Contracts see it as these characters.
 #[derive(Drop)]
 pub(crate) struct StepWord {
     characters: [u8; MOST],
@@ -56,7 +56,7 @@ impl StepWord {
     }
 }
 
-/// Puts the last `count` bits of a number behind a blank, the most significant first.
+/// Puts the last `count` bits of a number after a blank, the most significant first.
 fn put_digits(characters: &mut [u8], bits: u64, count: usize)
     requires few { count ≤ 64 }
     requires room { length characters.old ≡ 65 }

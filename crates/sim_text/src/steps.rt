@@ -8,7 +8,7 @@ use std::marker::Model;
 use tsc_net::Bits;
 use tsc_text::Lines;
 
-/// The lines of a text from a place on, each of them a step's. Contracts see them as the input bits of the steps, a list a step.
+/// The lines of a text from a place on, each of them a step's. Contracts see them as the input bits of the steps, one list per step.
 #[derive(Drop)]
 pub struct StepLines<'a> {
     lines: &'a Lines<'a>,

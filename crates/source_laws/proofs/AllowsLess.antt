@@ -37,6 +37,7 @@ module _ (L M : Logic) (N : Circuit) (P : CodePlan) (less : AllowsLess P.version
   flagged : (xs vs us : List (List Bool)) → IsFlagged L N P xs vs us → IsFlagged M N P xs vs us
   flagged xs vs us h = record { first_error = h.first_error; no_silent_error = silent xs vs us h.no_silent_error }
 
+-- what follows a source follows each source that allows more under its plan
 pub follows_carries : CarriesOver FollowsSource
 follows_carries L M N P less h = record {
   starts = h.starts ∙ ap Some less.reset;
@@ -44,6 +45,7 @@ follows_carries L M N P less h = record {
   codewords = h.codewords;
 }
 
+-- what is secure against any one failing cell for a source is so for each source that allows more under its plan
 pub cells_carry : CarriesOver IsCellSecure
 cells_carry L M N P less h = record {
   one_run = h.one_run;
@@ -53,6 +55,7 @@ cells_carry L M N P less h = record {
   flagged = λ cell w xs vs us is runs but. flagged L M N P less xs vs us (h.flagged cell w xs vs us is runs but);
 }
 
+-- what is fault-secure for a source is so for each source that allows more under its plan
 pub faults_carry : CarriesOver IsFaultSecure
 faults_carry L M N P less h = record {
   one_run = h.one_run;
@@ -61,6 +64,7 @@ faults_carry L M N P less h = record {
   flagged = λ f w xs vs us is runs under. flagged L M N P less xs vs us (h.flagged f w xs vs us is runs under);
 }
 
+-- what is alarm-secure for a source is so for each source that allows more under its plan
 pub alarms_carry : CarriesOver IsAlarmSecure
 alarms_carry L M N P less h = record {
   one_run = h.one_run;

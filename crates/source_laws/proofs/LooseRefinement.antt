@@ -24,6 +24,7 @@ module _ (V F W G : Circuit) (refined : IsRefinedBy V F W G) where
         | inr there ↦ inr (here ∙ there)
       ]
 
+-- a source that refines another allows less under version 2
 pub refined_sources_allow_less : RefinedSourcesAllowLess
 refined_sources_allow_less V F W G refined = record { reset = refl; outputs = λ q x ys h. refined_outputs V F W G refined x ys h; next = λ q x r h. h }
 
@@ -54,6 +55,7 @@ version_one_frees_nothing V F version other = record {
   more = record { reset = refl; outputs = λ q x ys h. chosen_allowed V F version x ys h; next = λ q x r h. h };
 }
 
+-- a loose source that frees nothing allows the same as the network of its values, under any version
 pub unfreed_are_networks : UnfreedAreNetworks
 unfreed_are_networks V F version none = record {
   less = record { reset = refl; outputs = λ q x ys h. is_chosen V F version x ys (λ place inside free. none x place inside free.1) h; next = λ q x r h. h };

@@ -21,6 +21,7 @@ without_none test G = record {
   none = subst (HasNo test) (sym (drop_all (length G.gates) G.gates (omega arith))) (All-from_recursion (λ (g : Gate). test g ≡ false) [] tt);
 }
 
+-- what grew twice without gates of a kind has grown without them
 pub without_twice : (test : Gate → Bool) (a b c : GateNetwork) → GrowsWithout test a b → GrowsWithout test b c → GrowsWithout test a c
 without_twice test a b c h k = record { grows = grows_twice a b c h.grows k.grows; none = none_twice a b c test h.grows k.grows h.none k.none }
 

@@ -102,7 +102,7 @@ fn word_lines(
 }
 
 /// Adds a line for each word, in order, which is 1 exactly where all state bits are 1 that are 1 in the word; so on every
-/// state word, be it one of these words or not. It adds at most the `n` state bits and `n + 1` gates a word, and only `And`,
+/// state word, be it one of these words or not. It adds at most the `n` state bits and `n + 1` gates per word, and only `And`,
 /// `State` and, for a word without ones, `One`; all earlier gates stay, also where memory is missing.
 ///
 /// # Errors

@@ -25,7 +25,7 @@ abbrev pub IsGroupAnswer : Circuit → CodePlan → ℕ → Option SharedNode �
 IsGroupAnswer N P group None = (a b : ℕ) → SharesAt N P group a b → ⊥
 IsGroupAnswer N P group (Some shared) = IsFirstSharedIn N P group shared.first.number shared.second.number shared.node.number
 
--- what a reason says that stands behind the rails and the reads: about the code's condition
+-- what a reason says that stands after the rails and the reads: about the code's condition
 abbrev pub FailsCode : Circuit → CodePlan → StructureReason → Type 0
 FailsCode N P (Rails net) = ⊥
 FailsCode N P (Reads at pin) = ⊥

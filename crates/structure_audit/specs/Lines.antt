@@ -1,4 +1,4 @@
--- Which lines of the word depend on each node: a mask a node, whose bit worth 2 ^ k stands for the line at place k.
+-- Which lines of the word depend on each node: one mask per node, whose bit worth 2 ^ k stands for the line at place k.
 use Rattle.std.specs.Prelude.{◌≡◌, ℕ, ◌+◌, ◌-◌, ◌^◌, ◌<◌, nat_lt, bit_or, Bool, if◌then◌else◌, List, [], ◌∷◌, map, length, slice_index, slice_set, IsTrue, Option, Some, None}
 use Rattle.tsc_bits.specs.Bits.{bit_worth}
 use Rattle.fault_secure.specs.Circuit.{Circuit}

@@ -1,4 +1,4 @@
-//! Which lines of the word depend on each node: a mask a node, made by one walk back along the evaluation order.
+//! Which lines of the word depend on each node: one mask per node, made by one walk back along the evaluation order.
 ghost use Rattle.std.specs.Prelude.{◌≡◌, ◌+◌, ◌^◌, ◌<◌, ◌≤◌, length, replicate, slice_index, All, IfOk};
 ghost use Rattle.fault_secure.specs.Circuit.{nets, node};
 ghost use Rattle.tsc_bits.specs.Bits.{bit_worth};

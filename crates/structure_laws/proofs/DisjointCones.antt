@@ -38,6 +38,7 @@ module _ (N : Circuit) (P : CodePlan) (v u : List Bool) (reads : ReadsOnlyWord N
   checker_net_same : Acyclic N → (net : ℕ) → IsOfChecker N P net → bit v net ≡ bit u net
   checker_net_same a = by_rank (λ net. IsOfChecker N P net → bit v net ≡ bit u net) a.rank (at_checker_net a.rank a.ranks)
 
+-- where the checker settles in two valuations with the same word, their rails are the same
 pub rails_follow_word : RailsFollowWord
 rails_follow_word N P v u acyclic rails reads first second same = record {
   first = checker_net_same N P v u reads first second same acyclic P.rail1
@@ -59,6 +60,7 @@ one_change_in_group N P q x s v u acyclic cones first second group a b l k =
       ]
     ]
 
+-- to know that a checker is code-disjoint it is enough to try one valuation for each word
 pub code_disjoint_by_words : CodeDisjointByWords
 code_disjoint_by_words N P acyclic rails reads tried = record { decides = λ v h. decide v h (tried v h) }
   where

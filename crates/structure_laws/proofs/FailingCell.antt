@@ -23,6 +23,7 @@ IsAt f cell = (net : ℕ) → (net ≡ cell → ⊥) → TreatAlike f NoFault ne
 stem_at : (cell : ℕ) (held : Bool) → IsAt (Stem cell held) cell
 stem_at cell held net off = record { stem = λ b. cond-false (cell == net) held b (ne_eqb cell net (λ e. off (sym e))); pin = λ k b. refl }
 
+-- at other nets than that of its cell a fault holds no stem and no pin
 pub fault_at : (f : StuckAt) → IsAt f (fault_cell f)
 fault_at NoFault net off = record { stem = λ b. refl; pin = λ k b. refl }
 fault_at (Stem cell held) net off = stem_at cell held net off
@@ -73,6 +74,7 @@ as_held_stem N cell x s v h = record {
       (λ off. h.nodes j l off ∙ sym (value-off N (Stem cell (bit v cell)) cell j v (stem_at cell (bit v cell)) off));
 }
 
+-- a step with a failing cell is one in which the cell's stem is held at the bit that it gives
 pub cells_settle_as_held_stems : CellsSettleAsHeldStems
 cells_settle_as_held_stems N cell x s v is =
     (as_held_stem N cell x s v, settles_but N (Stem cell (bit v cell)) cell x s s v (stem_at cell (bit v cell)) is.no_input (λ l k off. refl))
@@ -138,6 +140,7 @@ module _ (N : Circuit) (cell : ℕ) (acyclic : Acyclic N) (is : IsCell N cell) w
       let first = one_valuation N (Stem cell b) (bit x) (bit s) acyclic in
       one_more s b x bits xs first (one_from (next_state N NoFault first.valuation) bits xs (omega arith))
 
+-- in an acyclic circuit there is exactly one run for whatever bits a failing cell gives
 pub one_run_but_a_cell : OneRunButACell
 one_run_but_a_cell N cell bits xs acyclic is e =
     let one = one_from N cell acyclic is (init_state N) bits xs e in
@@ -145,6 +148,7 @@ one_run_but_a_cell N cell bits xs acyclic is e =
 
 -- ---- the listed faults
 
+-- a driver that has a pin is no input
 pub pins_of_input : (N : Circuit) (driver index : ℕ) → nat_lt index (pins_of N driver) ≡ true → N.inputs ≤ driver
 pins_of_input N driver index h = elim (cases_lt driver N.inputs) [
   | inl below ↦ absurd (omega (arith, ltb-true index 0 (subst (λ z. nat_lt index (if z then 0 else if nat_lt driver (N.inputs + length N.latches) then 1 else length (node N (driver - (N.inputs + length N.latches))).reads) ≡ true) (lt-ltb driver N.inputs below) h)))
@@ -180,11 +184,13 @@ runs_but N f no_input (here ∷ w) (x ∷ xs) (u ∷ us) s t same h = (
       (λ l k off. next_same N (present here f) (fault_cell f) u (present_at here f) 0 N.latches l k (λ e. off (omega arith))) h.1,
 )
 
+-- a step with a listed fault is one with its cell failing, whatever state bit a latch that fails had
 pub listed_faults_settle_but : ListedFaultsSettleBut
 listed_faults_settle_but N f x s t v listed same h =
     let is = listed_at N f listed in
     (is, settles_but N f (fault_cell f) x s t v (fault_at f) is.no_input same h)
 
+-- a run with a listed fault, present at any steps, is one with a failing cell
 pub listed_faults_are_failing_cells : ListedFaultsAreFailingCells
 listed_faults_are_failing_cells N f w xs us listed h =
     let is = listed_at N f listed in

@@ -190,6 +190,7 @@ module _ (N : Circuit) where
       net_holds driver (Pin driver index held) (pins_of_input N driver index parts.1) (ltb-true driver (nets N) parts.0)
       (pin_held driver (pins_of N driver) index held (ltb-true index (pins_of N driver) parts.1))
 
+-- a fault stands in the list exactly where it is listed
 pub holds_the_listed : HoldsTheListed
 holds_the_listed N f = (held_is_listed N f, listed_is_held N f)
 

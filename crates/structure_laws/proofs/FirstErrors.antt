@@ -28,6 +28,7 @@ one_way_same P ns v u true unordered moves first second =
 one_way_same P ns v u false unordered moves first second =
     unordered_codes P (map (bit u) ns) (map (bit v) ns) unordered second first (word_down (bit v) (bit u) ns moves)
 
+-- in a unate function under an unordered code no failing cell makes a wrong codeword
 pub unate_is_safe : UnateIsSafe
 unate_is_safe N P cell acyclic unate unordered x s v u settled held first second =
     let way = one_way_errors N P cell x s v u acyclic unate (working N cell x s v settled) held in
@@ -42,6 +43,7 @@ CleanFrom N s (x ∷ xs) (v ∷ vs) = Settles N NoFault (bit x) (bit s) v × Cle
 CleanFrom N s [] (v ∷ vs) = ⊥
 CleanFrom N s (x ∷ xs) [] = ⊥
 
+-- a run without a fault, with whatever marks, is one without marks
 pub clean_from : (N : Circuit) (s w : List Bool) (xs vs : List (List Bool)) → RunsFrom N NoFault s w xs vs → CleanFrom N s xs vs
 clean_from N s [] [] [] h = tt
 clean_from N s [] [] (v ∷ vs) h = absurd h
@@ -56,6 +58,7 @@ next_reads : (N : Circuit) (v : List Bool) (k : ℕ) (ls : List LatchOf) → lat
 next_reads N v k [] = refl
 next_reads N v k (l ∷ ls) = ap (λ z. bit v l.reads ∷ z) (next_reads N v (suc k) ls)
 
+-- without a fault the next state bits are the bits at the inputs of the latches
 pub next_clean : (N : Circuit) (v : List Bool) → next_state N NoFault v ≡ next_in N v
 next_clean N v = next_reads N v 0 N.latches
 
@@ -64,6 +67,7 @@ pub same_next : (N : Circuit) (P : CodePlan) (v u : List Bool) → word N P u �
 same_next N P v u same =
     next_clean N u ∙ (same_parts (bit u) (bit v) (take P.outputs N.outputs ++ P.checks) (next_nets N) same).1 ∙ sym (next_clean N v)
 
+-- two words are the same, or they aren't
 pub same_word_or_not : (N : Circuit) (P : CodePlan) (u v : List Bool) → (word N P u ≡ word N P v) ⊎ (word N P u ≡ word N P v → ⊥)
 same_word_or_not N P u v = elim (words_differ N P u v) [ inl e ↦ inl e | inr d ↦ inr (λ e. d.apart (ap (λ w. bit w d.place) e)) ]
 

@@ -23,6 +23,7 @@ outputs_same N P v u same =
     let front = (same_parts (bit u) (bit v) (take P.outputs N.outputs ++ P.checks) (next_nets N) same).0 in
     sym (same_parts (bit u) (bit v) (take P.outputs N.outputs) P.checks front).0
 
+-- where `Some` of two numbers is the same, so are the numbers
 pub Some-same : (a b : ℕ) → Some a ≡ Some b → a ≡ b
 Some-same a b e = cc
 
@@ -87,6 +88,7 @@ safe_is_cell_secure M N P acyclic disjoint safe follows = record {
     both : (w : List Bool) (xs vs : List (List Bool)) → Runs N NoFault w xs vs → FollowsFrom M N P (init_state N) xs vs × All (IsQuiet N P) vs
     both w xs vs run = quiet_from M N P follows disjoint xs vs (init_state N) (reset_of M) follows.starts (clean_from N (init_state N) w xs vs run)
 
+-- what is acyclic and secure against any one failing cell is fault-secure
 pub cell_secure_is_fault_secure : CellSecureIsFaultSecure
 cell_secure_is_fault_secure M N P acyclic secure = record {
   one_run = λ f w xs listed sized. one_run N f w xs acyclic sized;

@@ -46,6 +46,7 @@ module _ (P : CodePlan) (version : ℕ) where
     pub function_under : (q : ℕ) → InFunction N P q → InFunction N (with_version version P) q
     function_under q h = record { net = h.net; monitors = h.monitors; depends = h.depends }
 
+    -- a node of the function under the plan of another version is one under the plan itself
     pub function_over : (q : ℕ) → InFunction N (with_version version P) q → InFunction N P q
     function_over q h = record { net = h.net; monitors = h.monitors; depends = h.depends }
 
@@ -75,6 +76,7 @@ module _ (P : CodePlan) (version : ℕ) where
     suits_under Berger h = record { signs = λ q pin is_node inside. h.signs q pin is_node (function_over q inside) }
     suits_under MOutOfN h = record { signs = λ q pin is_node inside. h.signs q pin is_node (function_over q inside) }
 
+-- the structure of a netlist is as sound under its plan with version 1 or 2
 pub sound_under_any_version : SoundUnderAnyVersion
 sound_under_any_version N P version versioned h = record {
   well_made = made_under P version versioned h.well_made;
@@ -91,6 +93,7 @@ sound_under_any_version N P version versioned h = record {
   };
 }
 
+-- what follows a network follows each loose source with its values, under a plan of any version
 pub follows_with_free_bits : FollowsWithFreeBits
 follows_with_free_bits V F N P version h = record {
   starts = h.starts;

@@ -18,12 +18,14 @@ monitored_seen N P net c q h e = record { net = net; monitors = c; depends = its
 pub pin_seen : (N : Circuit) (P : CodePlan) (q pin : ℕ) → q < length N.nodes → InFunction N P q → pin < length (node N q).reads → IsOfFunction N P (pin_net N q pin)
 pin_seen N P q pin hq of hp r hr e = record { net = of.net; monitors = of.monitors; depends = feeds N r q pin of.net hr e hp of.depends }
 
+-- two valuations that settle at every net except that of node q agree at every net that doesn't depend on q
 pub outside_cone_unchanged : OutsideConeUnchanged
 outside_cone_unchanged N q x s v u acyclic first second =
     agree_but N (node_net N q) x s v u first second (λ net. Depends N q net → ⊥)
     (λ j pin h l free d. free (through (node_net N j) j pin h refl l d))
     (λ net h free e. free (itself net (omega arith) e)) acyclic
 
+-- a failing node outside the function leaves the monitored word as it is without a fault
 pub outside_function_keeps_word : OutsideFunctionKeepsWord
 outside_function_keeps_word N P q x s v u acyclic outside first second =
     same_word (bit u) (bit v) (monitored N P) (λ net c. sym (agree_but N (node_net N q) x s v u first second (IsOfFunction N P)

@@ -17,6 +17,7 @@ use Rattle.structure_laws.proofs.FailingCell.{working}
 use Rattle.structure_laws.proofs.Outside.{outside_cone_unchanged}
 use Rattle.structure_laws.proofs.Groups.{InGroup, parity_flips, place_in_group}
 
+-- two bits are the same, or they aren't
 pub same_bit : (a b : Bool) → (a ≡ b) ⊎ (a ≡ b → ⊥)
 same_bit true true = inl refl
 same_bit false false = inl refl
@@ -37,6 +38,7 @@ differ_heads c d a b (inl e) (inl h) = inl (ap₂ ◌∷◌ e h)
 differ_heads c d a b (inl e) (inr h) = inr (differ_later c d a b h)
 differ_heads c d a b (inr n) h = inr (record { place = zero; within = omega arith; apart = n })
 
+-- two words of the same length are the same, or differ at a place
 pub same_or_differ : (a b : List Bool) → length a ≡ length b → (a ≡ b) ⊎ DifferAt a b
 same_or_differ [] [] e = inl refl
 same_or_differ [] (d ∷ b) e = absurd (omega arith)
@@ -106,6 +108,7 @@ node_of_cell N cell none is (Latch j h e) = absurd (omega arith)
 node_of_cell N cell none is (Node j h e) = (j, e)
 node_of_cell N cell none is (Beyond h) = absurd (let l = is.inside in omega arith)
 
+-- under code Parity, with disjoint cones in each group, no failing cell makes a wrong codeword
 pub parity_is_safe : ParityIsSafe
 parity_is_safe N P cell parity well plan acyclic cones is x s v u settled held before after =
     let found = node_of_cell N cell cones.no_latch is (place_of N cell) in

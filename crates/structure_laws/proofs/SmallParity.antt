@@ -179,6 +179,7 @@ small_follows = record {
   codewords = λ q s x v e h. small_codeword s x v h;
 }
 
+-- the small netlist is secure against any one failing cell, for its source
 pub small_is_cell_secure : SmallIsCellSecure
 small_is_cell_secure = safe_is_cell_secure (Network small_source) small_netlist small_plan small_acyclic small_checker
     (λ cell is. parity_is_safe small_netlist small_plan cell refl small_well_made small_plan_of small_acyclic small_cones is) small_follows

@@ -26,8 +26,10 @@ pub sound_shows_errors : SoundShowsErrors
 sound_shows_errors N P cell w xs vs us sound is run held ok =
     first_error_shows N P cell w xs vs us sound.acyclic sound.checker (sound_is_safe N P sound cell is) run held ok
 
+-- a netlist of sound structure that follows its source without a fault is secure against any one failing cell
 pub sound_is_cell_secure : SoundIsCellSecure
 sound_is_cell_secure M N P sound follows = safe_is_cell_secure M N P sound.acyclic sound.checker (sound_is_safe N P sound) follows
 
+-- a netlist of sound structure that follows its source without a fault is fault-secure
 pub sound_is_fault_secure : SoundIsFaultSecure
 sound_is_fault_secure M N P sound follows = cell_secure_is_fault_secure M N P sound.acyclic (sound_is_cell_secure M N P sound follows)

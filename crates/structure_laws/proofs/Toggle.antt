@@ -135,6 +135,7 @@ closed = record {
   widths = All-from_recursion (λ (n : NodeOf). n.cover.width ≡ length n.reads) toggle.nodes (refl, (refl, (refl, (refl, (refl, (refl, tt))))));
 }
 
+-- the small machine has sound structure
 pub toggle_is_sound : HasSoundStructure toggle toggle_plan
 toggle_is_sound = record {
   well_made = well_made;
@@ -199,6 +200,7 @@ step_is (false ∷ false ∷ []) x q e = absurd (cc)
 step_is (true ∷ true ∷ []) x q e = absurd (cc)
 step_is (a ∷ b ∷ c ∷ s) x q e = absurd (none_long a b c s q e)
 
+-- the small machine follows its source
 pub toggle_follows : FollowsSource toggle_source toggle toggle_plan
 toggle_follows = record {
   starts = refl;
@@ -216,6 +218,7 @@ toggle_follows = record {
   codewords = λ q s x v traced settled. subst (IsCodeword toggle_plan) (sym (toggle_word x s v settled)) (step_is s x q traced).codeword;
 }
 
+-- the small machine is secure against any one failing cell, for its source
 pub toggle_is_cell_secure : ToggleIsCellSecure
 toggle_is_cell_secure = sound_is_cell_secure toggle_source toggle toggle_plan toggle_is_sound toggle_follows
 

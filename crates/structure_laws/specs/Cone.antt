@@ -5,7 +5,7 @@ use Rattle.fault_secure.specs.Settle.{Acyclic}
 use Rattle.fault_secure.specs.Depends.{Depends}
 use Rattle.fault_secure.specs.FailingCell.{SettlesBut}
 
--- outside the cone nothing changes: two valuations that settle at every net but that of node q, with the same input and state bits,
+-- outside the cone nothing changes: two valuations that settle at every net except that of node q, with the same input and state bits,
 -- agree at every net that doesn't depend on q
 abbrev pub OutsideConeUnchanged : Type 0
 OutsideConeUnchanged =

@@ -21,7 +21,7 @@ with_version version P = record {
   rail2 = P.rail2;
 }
 
--- what follows a network, follows under a plan of any version a loose source with its values, whichever of its bits are free
+-- what follows a network follows each loose source with its values, whichever of its bits are free, under a plan of any version
 abbrev pub FollowsWithFreeBits : Type 0
 FollowsWithFreeBits = (V F N : Circuit) (P : CodePlan) (version : ℕ) → FollowsSource (Network V) N P
     → FollowsSource (Loose V F) N (with_version version P)

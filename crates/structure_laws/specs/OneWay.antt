@@ -21,7 +21,7 @@ pub record MovesOneWay (N : Circuit) (P : CodePlan) (v u : List Bool) : Type 0 w
   pub nets : (net : ℕ) → IsOfFunction N P net → Moves direction (bit v net) (bit u net)
   pub monitors : (net : ℕ) → Contains (monitored N P) net → Moves direction (bit v net) (bit u net)
 
--- in an acyclic unate function, between two valuations that settle at every net but one cell's, with the same input and state bits
+-- in an acyclic unate function, between two valuations that settle at every net except one cell's, with the same input and state bits
 abbrev pub OneWayErrors : Type 0
 OneWayErrors = (N : Circuit) (P : CodePlan) (cell : ℕ) (x s : ℕ → Bool) (v u : List Bool)
     → Acyclic N → IsUnate N P → SettlesBut N cell x s v → SettlesBut N cell x s u → MovesOneWay N P v u

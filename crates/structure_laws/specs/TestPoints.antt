@@ -9,8 +9,8 @@ use Rattle.fault_secure.specs.Logic.{Logic}
 use Rattle.fault_secure.specs.FaultSecure.{state_at, states_from, at_step, IsFaultSecure}
 use Rattle.fault_secure.specs.Exposing.{Exposes, IsExposed}
 
--- a test of a listed fault: over any inputs that bring the netlist without a fault to the point's state by at least one step, the fault
--- present at that last step and at the point, the alarm comes at the point, or came before
+-- a test of a listed fault: some inputs bring the netlist without a fault to the point's state by at least one step, with the fault
+-- present at that last step and at the point. Then the alarm comes at the point, or came before
 abbrev pub ExposedFaultsAlarm : Type 0
 ExposedFaultsAlarm = (M : Logic) (N : Circuit) (P : CodePlan) (f : StuckAt) (q last : ℕ) (w : List Bool) (xs vs us : List (List Bool))
     → Acyclic N → IsPlanOf N P → IsFaultSecure M N P → IsTrue (is_listed N f) → Exposes N P f q (at_step xs (last + 1))

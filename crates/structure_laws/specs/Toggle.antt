@@ -1,4 +1,4 @@
--- A small machine, as a guard that the definitions can be met: two states, of which each 1 at the input leads to the other,
+-- A small machine, as a guard that the definitions can be met. It has two states, of which each 1 at the input leads to the other,
 -- an output that repeats the input, and the 1-out-of-2 code over the output and its check, and over the state.
 use Rattle.std.specs.Prelude.{ℕ, Bool, true, false, List, [], ◌∷◌, Some}
 use Rattle.tsc_cover.specs.Cover.{Literal, Free, Wants, CoverTable}

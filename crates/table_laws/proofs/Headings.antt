@@ -64,6 +64,7 @@ heading_parts true true (Some line) last e = cc
 heading_parts true false wrong last e = cc
 heading_parts false b wrong last e = cc
 
+-- lines that aren't refused have no fault, state their inputs and outputs, and give no wrong names
 pub allowed_parts : (lines : List TextLine) → refusal lines ≡ None → IsAllowed lines
 allowed_parts lines e =
     let parts = both_pass (first_fault lines) (heading_refusal lines) e in

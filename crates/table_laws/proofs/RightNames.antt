@@ -8,6 +8,7 @@ use Rattle.tsc_text.specs.TextLine.{TextLine}
 use Rattle.table_lines.specs.NamesText.{are_wrong_names, later_line, names_or, numbered_names, wrong_at, wrong_names}
 use Rattle.table_lines.proofs.NameLists.{count_of_numbered, no_input_line, no_output_line, none_twice, numbered_differ}
 
+-- the names are as many as are wanted and asked for, and all different
 pub record AreRight (inputs : List (List ℕ)) (wanted : ℕ) (outputs : List (List ℕ)) (asked : ℕ) : Type 0 where
   pub inputs_many : length inputs ≡ wanted
   pub outputs_many : length outputs ≡ asked
@@ -35,6 +36,7 @@ numbers_right inputs outputs few_inputs few_outputs = record {
   distinct = numbered_differ inputs outputs few_inputs few_outputs;
 }
 
+-- names that aren't refused are right, for at most 64 inputs and 64 outputs
 pub names_right : (a b : Option TextLine) (inputs outputs : ℕ) → inputs ≤ 64 → outputs ≤ 64 → wrong_names a inputs b outputs ≡ None
     → AreRight (names_or a 105 inputs) inputs (names_or b 111 outputs) outputs
 names_right a b inputs outputs few_inputs few_outputs e = by (later_line a b) refl e

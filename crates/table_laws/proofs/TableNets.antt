@@ -132,6 +132,7 @@ module _ (lines : List TextLine) (e : refusal lines ≡ None) where
       (rows_wide allowed.inputs.count allowed.outputs.count (frees_of lines) lines
       (shaped_lines lines allowed.inputs.count allowed.outputs.count allowed.sound allowed.inputs.is allowed.outputs.is))
 
+  -- both networks of these lines answer what their table says
   pub lines_answer : NetworksAnswer lines
   lines_answer = record {
     values = value_right (input_names lines) (output_names lines) (table_text lines) right some_output few_inputs few_outputs wide;
@@ -146,6 +147,7 @@ module _ (lines : List TextLine) (e : refusal lines ≡ None) where
 
 -- ---- the laws
 
+-- where nothing refuses the lines, both networks of them answer what their table says
 pub tables_answer : TablesAnswer
 tables_answer lines e = lines_answer lines e
 

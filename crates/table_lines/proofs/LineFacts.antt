@@ -29,6 +29,7 @@ no_fault (Some cause) line later e = cc
 -- what holds of each line without a fault that passes a test holds of the first
 module _ (fault_behind : FaultBehind) (test : TextLine → Bool) (P : TextLine → Type 0)
     (clean : (before : List TextLine) (line : TextLine) → test line ≡ true → fault_behind before line ≡ None → P line) where
+  -- where no line has a fault, it holds of the first line that passes the test
   pub clean_behind : (lines before : List TextLine) (line : TextLine) → first_fault_behind fault_behind before lines ≡ None → find test lines ≡ Some line → P line
   clean_behind [] before line e f = cc
   clean_behind (first ∷ lines) before line e f =
@@ -50,6 +51,7 @@ module _ (fault_behind : FaultBehind) (lines : List TextLine) (at : ℕ) (below 
   abbrev here : TextLine
   here = the_line lines at
 
+  -- the lines before the next one are those before this one, and then this one
   pub before_next : take (at + 1) lines ≡ before ++ here ∷ []
   before_next = take_more lines at no_line below
 
@@ -60,10 +62,12 @@ module _ (fault_behind : FaultBehind) (lines : List TextLine) (at : ℕ) (below 
       ∙ ap (λ fault. fault_or fault here (first_fault_behind fault_behind (before ++ here ∷ []) (drop (at + 1) lines))) (sym e)
       ∙ ap (λ n. Some (record { line = n; cause = cause })) (sym f)
 
+  -- where this line has a fault, it is the first from here on
   pub fault_found : (number : ℕ) (cause : Cause) (whole : Option LineFault) → Some cause ≡ fault_behind before here → number ≡ here.number
       → whole ≡ first_fault_behind fault_behind before (drop at lines) → whole ≡ Some (record { line = number; cause = cause })
   fault_found number cause whole e f is = is ∙ first_here number cause e f
 
+  -- where this line has no fault, the first one from here on is the first of the later lines
   pub fault_later : (whole : Option LineFault) → None ≡ fault_behind before here → whole ≡ first_fault_behind fault_behind before (drop at lines)
       → whole ≡ first_fault_behind fault_behind (take (at + 1) lines) (drop (at + 1) lines)
   fault_later whole sound is =

@@ -56,6 +56,7 @@ numbering_after seen (t ∷ names) is e = by (has_text seen t) refl (numbering_a
         let added : with_text seen t ≡ seen ++ t ∷ [] = ap (λ b. if b then seen else seen ++ t ∷ []) f in
         subst IsNumbering (append_assoc seen (t ∷ []) names) (rest (subst IsNumbering added (numbering-with_text seen t is)) g)
 
+-- names of which none stands twice are all different
 pub none_twice : (names : List (List ℕ)) → is_some (first_repeat names) ≡ false → IsNumbering names
 none_twice names e = numbering_after [] names (record { distinct = λ a b h k f. absurd (omega arith) }) (by (first_repeat names) e)
   where
@@ -117,6 +118,7 @@ module _ (inputs outputs : ℕ) (few_inputs : inputs ≤ 64) (few_outputs : outp
     ]
   ]
 
+  -- the numbered names of inputs and of outputs are all different
   pub numbered_differ : IsNumbering (numbered_names 105 inputs ++ numbered_names 111 outputs)
   numbered_differ = record { distinct = λ a b ha hb. let w = whole in apart a b (omega (arith, w, ha)) (omega (arith, w, hb)) }
 
@@ -126,6 +128,7 @@ no_input_line None b letter count e = refl
 no_input_line (Some line) None letter count e = cc
 no_input_line (Some line) (Some other) letter count e = cc
 
+-- where neither line is there, the names of the outputs are numbered ones
 pub no_output_line : (a b : Option TextLine) (letter count : ℕ) → later_line a b ≡ None → names_or b letter count ≡ numbered_names letter count
 no_output_line None None letter count e = refl
 no_output_line None (Some line) letter count e = cc

@@ -60,6 +60,7 @@ numbered_words letter count e few =
     let n : get_or (range_with_len 0 count) i 0 ≡ 0 + i = get_or-range_with_len 0 count i 0 (let l = length-range_with_len 0 count in omega arith) in
     numbered_word letter (get_or (range_with_len 0 count) i 0) e (let l = length-range_with_len 0 count in omega arith)))
 
+-- the names that a line of words gives, where it is no plan line, or at most 64 numbered ones without it, are names
 pub words_or : (line : Option TextLine) (letter count : ℕ) → is_word_byte false letter ≡ true → count ≤ 64
     → ((given : TextLine) → line ≡ Some given → HasWords given × (given.is_plan ≡ false)) → All IsName (names_or line letter count)
 words_or None letter count e few h = numbered_words letter count e few
@@ -88,6 +89,7 @@ numbers_short letter count few =
         let digits : length (decimal (get_or (range_with_len 0 count) i 0)) ≤ get_or (range_with_len 0 count) i 0 + 1 = length-decimal-le_succ (get_or (range_with_len 0 count) i 0) at in
         omega arith
 
+-- the names that a line gives, or at most 64 numbered ones without it, are short, where the line gives no long name
 pub names_short : (line : Option TextLine) (letter count : ℕ) → count ≤ 64 → ((given : TextLine) → line ≡ Some given → long_name (names_of given) ≡ None)
     → All IsShort (names_or line letter count)
 names_short None letter count few h = numbers_short letter count few

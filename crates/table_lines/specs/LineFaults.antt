@@ -1,4 +1,4 @@
--- What is refused of a line, by its words alone.
+-- Why a line is refused, by its words alone.
 use Rattle.std.specs.Prelude.{ℕ, Bool, true, false, ◌&&◌, ◌==◌, if◌then◌else◌, List, [], ◌∷◌, drop, length, nat_lt, unwrap_or, Option, None, Some}
 use Rattle.std.specs.Option.{is_some}
 use Rattle.tsc_cover.specs.Text.{is_row_text}
@@ -21,7 +21,7 @@ most_ports = 64
 abbrev pub most_rows : ℕ
 most_rows = 16384
 
--- the names of a line of names: all its words but the first
+-- the names of a line of names: all its words except the first
 abbrev pub names_of : TextLine → List (List ℕ)
 names_of line = drop 1 line.words
 

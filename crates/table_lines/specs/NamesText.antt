@@ -34,6 +34,7 @@ later_line (Some inputs) None = Some inputs.number
 later_line None (Some outputs) = Some outputs.number
 later_line (Some inputs) (Some outputs) = Some (max inputs.number outputs.number)
 
+-- this line, where the names are wrong and there is one
 abbrev pub wrong_at : Bool → Option ℕ → Option ℕ
 wrong_at wrong None = None
 wrong_at wrong (Some line) = if wrong then Some line else None

@@ -1,4 +1,4 @@
-//! What is refused of a line.
+//! Why a line is refused.
 
 use tsc_text::Which;
 

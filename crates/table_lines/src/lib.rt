@@ -2,7 +2,7 @@
 //! Its main call is `read_names`, which gives the names of inputs and outputs.
 //! It stands on `tsc_text` for lines and on `tsc_net` for names.
 //! Its main promise: names are those that the lines give, else numbered ones, and are different; a line's fault is exactly stated.
-//! Its definitions are in `specs/`: LineFaults and FirstFault say what is refused of lines, NamesText what names are given.
+//! Its definitions are in `specs/`: LineFaults and FirstFault say why a line is refused, NamesText what names are given.
 #![tactic(auto)]
 
 mod cause;

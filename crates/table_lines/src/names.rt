@@ -64,7 +64,7 @@ fn numbered_names(alloc: Global, letter: u8, count: usize) -> Result<NameTexts, 
     Ok(names)
 }
 
-/// The names of a line: all its words but the first.
+/// The names of a line: all its words except the first.
 #[tactic(auto, using(tsc_bits::proofs::Ranges::range_none, tsc_bits::proofs::Ranges::range_push, crate::proofs::NameLists::all_names))]
 fn names_at(alloc: Global, line: &TextLine) -> Result<NameTexts, AllocError>
     ensures names { IfOk result (λ names. names ≡ names_of line.now) }
@@ -190,7 +190,7 @@ fn default_names(alloc: Global, inputs: usize, outputs: usize) -> Result<Names, 
     Ok(Names { inputs, outputs })
 }
 
-/// The names of so many inputs and outputs.
+/// The names of so many inputs and outputs, at most 64 of each: there are so many, and all are different.
 #[tactic(auto, using(crate::proofs::NameLists::no_input_line, crate::proofs::NameLists::no_output_line, crate::proofs::NameLists::no_fault_without, crate::proofs::NameLists::no_fault_right, crate::proofs::NameLists::fault_wrong))]
 pub fn read_names(
     alloc: Global,

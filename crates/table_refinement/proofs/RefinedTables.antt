@@ -57,6 +57,7 @@ refined_tables_allow_less A B V F W G of_a of_b refines =
     } in
     refined_sources_allow_less V F W G refined
 
+-- what carries over to sources that allow more carries over, under version 2, from a table to each that it refines
 pub is_enough : (IsSecure : Logic → Circuit → CodePlan → Type 0) → CarriesOver IsSecure → IsEnough IsSecure
 is_enough IsSecure carries a b N P not_a not_b refines version =
     let less : AllowsLess 2 (source_of b) (source_of a) =

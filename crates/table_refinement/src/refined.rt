@@ -16,7 +16,7 @@ pub fn texts_are_networks_of_their_tables()
     ensures networks { TextsAreNetworks }
 {}
 
-/// A netlist with a plan of version 2 that follows the source of a table follows that of each table that it refines; where it is secure
+/// A netlist with a plan of version 2 that follows the source of a table follows that of each table that it refines. Where it is secure
 /// against any one failing cell, fault-secure or alarm-secure for the one, it is so for the other.
 pub fn refined_tables_are_enough()
     ensures follows { IsEnough FollowsSource }

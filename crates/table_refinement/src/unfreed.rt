@@ -1,7 +1,7 @@
 //! Tables that free nothing.
 ghost use Rattle.table_refinement.specs.Unfreed.{TypeFFreesNothing, UnfreedTablesAreNetworks};
 
-/// Of a table that frees nothing the source allows, under a plan of any version, exactly what the network of its values does.
+/// The source of a table that frees nothing allows, under a plan of any version, exactly what the network of its values does.
 pub fn unfreed_tables_are_networks()
     ensures alike { UnfreedTablesAreNetworks }
 {}

@@ -12,10 +12,12 @@ module _ (kind : Kind) (lines : List TextLine) (from : ℕ) where
   same_refusal : from < length lines → behind_refusal kind lines from ≡ last_refusal kind lines from
   same_refusal there = ap (λ b. if b then last_refusal kind lines from else Some NoNetlist) (lt-ltb from (length lines) there)
 
+  -- where a line stands from that place on, what refuses the section as the last one refuses it after another
   pub refused_last : (given : Refusal) → from < length lines → IsRefusedBy (last_refusal kind lines from) given → IsRefusedBy (behind_refusal kind lines from) given
   refused_last given there refused =
       let P : Option Refusal → Type 0 = λ r. IsRefusedBy r given in subst P (sym (same_refusal there)) refused
 
+  -- where a line stands from that place on, a section that is allowed as the last one is allowed after another
   pub allowed_last : from < length lines → last_refusal kind lines from ≡ None → behind_refusal kind lines from ≡ None
   allowed_last there allowed = same_refusal there ∙ allowed
 

@@ -27,6 +27,7 @@ few_inputs kind lines net is sound =
     let all = few kind lines sound in
     subst P (sym is) (omega (arith, all.inputs))
 
+-- a netlist whose lines nothing refuses has at most 64 latches
 pub few_latches : (kind : Kind) (lines : List TextLine) (net : NetlistOf)
     → net ≡ netlist_of (named_text lines) → refusal kind lines ≡ None → length net.circuit.latches ≤ 64
 few_latches kind lines net is sound =
@@ -34,6 +35,7 @@ few_latches kind lines net is sound =
     let all = few kind lines sound in
     subst P (sym is) (few_mapped _ (latches_of lines) 64 (omega (arith, all.latches)))
 
+-- a netlist whose lines nothing refuses has at most as many nets as a netlist may have
 pub few_nets : (kind : Kind) (lines : List TextLine) (net : NetlistOf)
     → net ≡ netlist_of (named_text lines) → refusal kind lines ≡ None → nets net.circuit ≤ most_nets
 few_nets kind lines net is sound =

@@ -59,6 +59,7 @@ some_cut (line ∷ lines) some = cut line lines
 
 -- ---- the same by places
 
+-- the lines between a place and the one so many further on are as many first ones from that place on
 pub range_is : (lines : List TextLine) (from count : ℕ) → slice_range lines from (from + count) ≡ take count (drop from lines)
 range_is lines from count = let e : (from + count) - from ≡ count = omega arith in ap (λ n. take n (drop from lines)) e
 
@@ -126,6 +127,7 @@ few_enough (line ∷ lines) few = le-ltb 64 (length (sections_behind (line ∷ l
 pub refused_count : (lines : List TextLine) → 64 < length (sections_behind lines) → parts_refusal lines ≡ Some TooManyParts
 refused_count lines many = ap (λ b. first_of (count_refusal b) (sections_refusal (sections_of lines))) (too_many lines many)
 
+-- where there are at most 64 sections, lines as parts are refused exactly as their sections are
 pub refused_parts : (lines : List TextLine) → length (sections_behind lines) ≤ 64 → parts_refusal lines ≡ sections_refusal (sections_of lines)
 refused_parts lines few = ap (λ b. first_of (count_refusal b) (sections_refusal (sections_of lines))) (few_enough lines few)
 

@@ -51,10 +51,12 @@ refused_first first later TooManyPins refused = ap (λ r. first_of r later) refu
 refused_first first later TooManyParts refused = ap (λ r. first_of r later) refused
 refused_first first later TooManyJointInputs refused = ap (λ r. first_of r later) refused
 
+-- where the first of two refusals is none, the two in order refuse what the later one refuses
 pub refused_later : (first later : Option Refusal) (given : Refusal) → first ≡ None → IsRefusedBy later given → IsRefusedBy (first_of first later) given
 refused_later first later given none refused =
     let P : Option Refusal → Type 0 = λ r. IsRefusedBy (first_of r later) given in subst P (sym none) refused
 
+-- where each of two refusals is none, the two in order are none
 pub allowed_both : (first later : Option Refusal) → first ≡ None → later ≡ None → first_of first later ≡ None
 allowed_both first later none also = ap (λ r. first_of r later) none ∙ also
 
@@ -63,6 +65,7 @@ pub none_first : (first later : Option Refusal) → first_of first later ≡ Non
 none_first None later e = refl
 none_first (Some refusal) later e = cc
 
+-- where two refusals in order are none, the later one is none
 pub none_later : (first later : Option Refusal) → first_of first later ≡ None → later ≡ None
 none_later None later e = e
 none_later (Some refusal) later e = cc
@@ -74,6 +77,7 @@ refused_lines kind text lines given are sound refused =
     let P : List TextLine → Type 0 = λ l. IsRefusedBy (lines_refusal kind l) given in
     refused_later (byte_refusal (bad_line text)) (lines_refusal kind (lines_of text)) given (ap byte_refusal sound) (subst P are refused)
 
+-- where nothing refuses the bytes of a text or its lines, nothing refuses the text
 pub allowed_lines : (kind : Kind) (text : List ℕ) (lines : List TextLine)
     → lines ≡ lines_of text → bad_line text ≡ None → lines_refusal kind lines ≡ None → text_refusal kind text ≡ None
 allowed_lines kind text lines are sound allowed =
@@ -100,6 +104,7 @@ refused_section kind first (PlanName line) refused = ap (section_refusal kind) r
 pub behind : (next count : ℕ) (refusal : Refusal) → next < count → (if nat_lt next count then Some refusal else None) ≡ Some refusal
 behind next count refusal lt = ap (λ b. if b then Some refusal else None) (lt-ltb next count lt)
 
+-- where the section ends with the lines, no line stands after it
 pub none_behind : (next count : ℕ) (refusal : Refusal) → count ≤ next → (if nat_lt next count then Some refusal else None) ≡ None
 none_behind next count refusal le = ap (λ b. if b then Some refusal else None) (le-ltb next count le)
 
@@ -121,6 +126,7 @@ module _ (lines : List TextLine) (from : ℕ) (section : Section) (is : section 
       let Q : Refusal → Type 0 = λ r. IsRefusedBy (refusal_from kind lines from) r in
       subst Q (sym same) (refused_section kind (refusal kind (lines_from lines from)) error (subst P is refused))
 
+  -- where nothing refuses its lines, the section is not refused
   pub allowed_text_of : (kind : Kind) → refusal kind (section_lines lines section) ≡ None → refusal_from kind lines from ≡ None
   allowed_text_of kind sound =
       let P : Section → Type 0 = λ s. refusal kind (section_lines lines s) ≡ None in
@@ -142,6 +148,7 @@ module _ (lines : List TextLine) (from : ℕ) (section : Section) (is : section 
       (behind (section_from lines from).next (length lines) (AfterTheEnd (the_line lines (section_from lines from).next).number) (subst P is there)
       ∙ ap (λ n. Some (AfterTheEnd n)) (sym number_is))
 
+  -- where the section is not refused and no line stands after it, nothing refuses the lines from that place on
   pub none_left : (kind : Kind) (count : ℕ) → refusal_from kind lines from ≡ None → count ≤ section.next → count ≡ length lines → last_refusal kind lines from ≡ None
   none_left kind count none le counted =
       let P : Section → Type 0 = λ s. length lines ≤ s.next in

@@ -1,5 +1,5 @@
--- What a text denotes: the netlist and the plan of its first section, and the lines behind it; or a machine and its names; or a table of a
--- network with free bits; or a source of each format, and the netlist and the plan of the section behind it.
+-- What a text denotes: the netlist and the plan of its first section, and the lines after it; or a machine and its names; or a table of a
+-- network with free bits; or a source of each format, and the netlist and the plan of the section after it.
 use Rattle.std.specs.Prelude.{ℕ, List, [], drop}
 use Rattle.std.specs.Option.{unwrap_or}
 use Rattle.tsc_text.specs.Lines.{lines_of}
@@ -22,14 +22,15 @@ use Rattle.pla_read.specs.TableText.{table_text, TableOf}
 use Rattle.commands.specs.declared.source_format.SourceFormat.{SourceFormat}
 use Rattle.commands.specs.declared.source_format.SourceFormat.TheVariants.{Blif, Kiss, Pla}
 
--- the BLIF section of the lines from a place on, and its lines
+-- the BLIF section of the lines from a place on
 abbrev pub section_from : List TextLine → ℕ → Section
 section_from lines from = section_of lines from BlifEnd
 
+-- the lines of the BLIF section from a place on
 abbrev pub lines_from : List TextLine → ℕ → List TextLine
 lines_from lines from = section_lines lines (section_from lines from)
 
--- the netlist that it denotes
+-- the netlist that this section denotes
 abbrev pub net_from : List TextLine → ℕ → NetlistOf
 net_from lines from = netlist_of (named_text (lines_from lines from))
 
@@ -64,14 +65,15 @@ first_plan lines = plan_from lines 0
 abbrev pub plan_in : List ℕ → CodePlan
 plan_in text = first_plan (lines_of text)
 
--- the lines behind the first section
+-- the lines after the first section
 abbrev pub lines_behind : List TextLine → List TextLine
 lines_behind lines = drop (first_section lines).next lines
 
--- the first KISS2 section of the lines, and its lines; a PLA section ends as one of KISS2 does
+-- the first KISS2 section of the lines; a PLA section ends as one of KISS2 does
 abbrev pub machine_section : List TextLine → Section
 machine_section lines = section_of lines 0 KissEnd
 
+-- the lines of the first section, of KISS2 or of PLA
 abbrev pub machine_lines : List TextLine → List TextLine
 machine_lines lines = section_lines lines (machine_section lines)
 
@@ -79,34 +81,39 @@ machine_lines lines = section_lines lines (machine_section lines)
 abbrev pub machine_in : List ℕ → StateTable
 machine_in text = (machine_text (machine_lines (lines_of text))).table
 
--- the names of its inputs, and of its outputs
+-- the names of that table's inputs
 abbrev pub inputs_in : List ℕ → List (List ℕ)
 inputs_in text = input_names (machine_lines (lines_of text))
 
+-- the names of that table's outputs
 abbrev pub outputs_in : List ℕ → List (List ℕ)
 outputs_in text = output_names (machine_lines (lines_of text))
 
--- the table that the lines denote, the network of its values, and that of its free bits
+-- the table that the lines denote
 abbrev pub table_of : List TextLine → TableOf
 table_of lines = table_text (machine_lines lines)
 
+-- the network of the table's values
 abbrev pub values_of : List TextLine → NetlistOf
 values_of lines = netlist_of (value_text (machine_lines lines))
 
+-- the network of the table's free bits
 abbrev pub frees_of : List TextLine → NetlistOf
 frees_of lines = netlist_of (free_text (machine_lines lines))
 
--- those of a text
+-- the table that a text denotes
 abbrev pub table_in : List ℕ → TableOf
 table_in text = table_of (lines_of text)
 
+-- the network of the values of a text's table
 abbrev pub values_in : List ℕ → NetlistOf
 values_in text = values_of (lines_of text)
 
+-- the network of the free bits of a text's table
 abbrev pub frees_in : List ℕ → NetlistOf
 frees_in text = frees_of (lines_of text)
 
--- the place behind the source that the lines begin with
+-- the place after the source that the lines begin with
 abbrev pub behind_source : SourceFormat → List TextLine → ℕ
 behind_source Blif lines = (first_section lines).next
 behind_source Kiss lines = (machine_section lines).next
@@ -122,9 +129,10 @@ source_of Pla lines = Loose (values_of lines).circuit (frees_of lines).circuit
 abbrev pub source_in : SourceFormat → List ℕ → Logic
 source_in format text = source_of format (lines_of text)
 
--- the netlist and the plan that the section behind the source of a text denotes
+-- the netlist that the section after the source of a text denotes
 abbrev pub second_netlist_in : SourceFormat → List ℕ → NetlistOf
 second_netlist_in format text = net_from (lines_of text) (behind_source format (lines_of text))
 
+-- the plan that the section after the source of a text states for its netlist
 abbrev pub second_plan_in : SourceFormat → List ℕ → CodePlan
 second_plan_in format text = plan_from (lines_of text) (behind_source format (lines_of text))

@@ -40,7 +40,7 @@ abbrev pub as_refusal : Kind → BlifError → Refusal
 as_refusal kind (NoMemory error) = Memory error
 as_refusal kind error = Blif kind error
 
--- a line, a plan line too, stands behind the section from a place on
+-- a line, a plan line too, stands after the section from a place on
 abbrev pub left_behind : List TextLine → ℕ → Option Refusal
 left_behind lines from =
     if nat_lt (section_from lines from).next (length lines)
@@ -51,11 +51,11 @@ left_behind lines from =
 abbrev pub refusal_from : Kind → List TextLine → ℕ → Option Refusal
 refusal_from kind lines from = section_refusal kind (refusal kind (lines_from lines from))
 
--- the lines from a place on as one section of this kind: the section, then a line behind it
+-- the lines from a place on as one section of this kind: the section, then a line after it
 abbrev pub last_refusal : Kind → List TextLine → ℕ → Option Refusal
 last_refusal kind lines from = first_of (refusal_from kind lines from) (left_behind lines from)
 
--- a line, a plan line too, stands behind the first section
+-- a line, a plan line too, stands after the first section
 abbrev pub left_over : List TextLine → Option Refusal
 left_over lines = left_behind lines 0
 
@@ -63,7 +63,7 @@ left_over lines = left_behind lines 0
 abbrev pub first_refusal : Kind → List TextLine → Option Refusal
 first_refusal kind lines = refusal_from kind lines 0
 
--- the lines of a text as one section of this kind: the section, then a line behind it
+-- the lines of a text as one section of this kind: the section, then a line after it
 abbrev pub lines_refusal : Kind → List TextLine → Option Refusal
 lines_refusal kind lines = last_refusal kind lines 0
 
@@ -81,14 +81,14 @@ abbrev pub as_machine_refusal : KissError → Refusal
 as_machine_refusal (NoKissMemory error) = Memory error
 as_machine_refusal error = Kiss error
 
--- a line, a plan line too, stands behind the machine, or behind the table
+-- a line, a plan line too, stands after the machine, or after the table
 abbrev pub behind_machine : List TextLine → Option Refusal
 behind_machine lines =
     if nat_lt (machine_section lines).next (length lines)
     then Some (AfterTheEnd (the_line lines (machine_section lines).next).number)
     else None
 
--- the lines of a text as a machine: the machine, then a line behind it
+-- the lines of a text as a machine: the machine, then a line after it
 abbrev pub machine_lines_refusal : List TextLine → Option Refusal
 machine_lines_refusal lines = first_of (machine_refusal (kiss_refusal (machine_lines lines))) (behind_machine lines)
 
@@ -110,7 +110,7 @@ as_pla_refusal error = Pla error
 abbrev pub first_table_refusal : List TextLine → Option Refusal
 first_table_refusal lines = pla_refusal (table_refusal (machine_lines lines))
 
--- the lines of a text as a table: the table, then a line behind it
+-- the lines of a text as a table: the table, then a line after it
 abbrev pub pla_lines_refusal : List TextLine → Option Refusal
 pla_lines_refusal lines = first_of (first_table_refusal lines) (behind_machine lines)
 
@@ -124,7 +124,7 @@ source_refusal BlifFormat lines = first_refusal Source lines
 source_refusal KissFormat lines = machine_refusal (kiss_refusal (machine_lines lines))
 source_refusal PlaFormat lines = first_table_refusal lines
 
--- the lines from a place on as a section of this kind behind another: none where there is no line, a plan line neither
+-- the lines from a place on as a section of this kind after another: none where there is no line, a plan line neither
 abbrev pub behind_refusal : Kind → List TextLine → ℕ → Option Refusal
 behind_refusal kind lines from = if nat_lt from (length lines) then last_refusal kind lines from else Some NoNetlist
 

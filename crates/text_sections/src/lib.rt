@@ -1,4 +1,4 @@
-//! A text as sections: a source or a netlist in BLIF, a machine in KISS2, a network with free bits in PLA, and what stands behind it.
+//! A text as sections: a source or a netlist in BLIF, a machine in KISS2, a network with free bits in PLA, and what stands after it.
 //! Its main calls are `read_source`, `read_netlist`, `machine_alone` and `table_alone`, for a text of one section; `first_netlist`, `first_source`, `first_machine`, `first_table`, `last_netlist` and `unplanned_behind`, for one of two; and `planned_parts`, for netlists one after another.
 //! It stands on the lines of a text (`tsc_text`), the readers (`blif_read`, `kiss_read`, `pla_read`) and `refusals` for what a refusal is.
 //! Its main promise: what is answered is what the section denotes, a function of the bytes; a refusal is the first one of the text, or want of memory.

@@ -95,7 +95,7 @@ fn source_of(alloc: Global, lines: &Lines) -> Result<Netlist, Refusal>
     }
 }
 
-/// The network that the first section of the lines denotes, whatever stands behind it.
+/// The network that the first section of the lines denotes, whatever stands after it.
 ///
 /// # Errors
 ///
@@ -185,7 +185,7 @@ fn last_text(alloc: Global, lines: &Lines, from: usize, kind: Kind) -> Result<Bl
     Ok(text)
 }
 
-/// The netlist with its plan that the first section of the lines denotes, whatever stands behind it.
+/// The netlist with its plan that the first section of the lines denotes, whatever stands after it.
 ///
 /// # Errors
 ///
@@ -202,7 +202,7 @@ pub fn first_netlist(alloc: Global, lines: &Lines) -> Result<PlannedNetlist, Ref
     netlist_from(alloc, lines, 0)
 }
 
-/// The netlist with its plan that the section of the lines from the place `from` on denotes, whatever stands behind it.
+/// The netlist with its plan that the section of the lines from the place `from` on denotes, whatever stands after it.
 ///
 /// # Errors
 ///
@@ -230,7 +230,7 @@ pub fn netlist_from(alloc: Global, lines: &Lines, from: usize) -> Result<Planned
     }
 }
 
-/// The place behind the first section of the lines.
+/// The place after the first section of the lines.
 pub fn behind_first(lines: &Lines) -> usize
     ensures behind { result ≡ (first_section lines.now).next }
     ensures within { result ≤ length lines.now }

@@ -1,5 +1,6 @@
 pub mod Bits
 pub mod Counting
+pub mod Pigeonhole
 pub mod Bools
 pub mod Lists
 pub mod Thermometers

@@ -2,9 +2,11 @@
 use Rattle.std.specs.Prelude.{ℕ, ◌+◌, ◌*◌, Bool, true, false, not, ◌&&◌, ◌||◌, if◌then◌else◌, List, [], ◌∷◌, count_by}
 use Rattle.tsc_bits.specs.Bits.{weight_of}
 
+-- how many bits of the list are 1
 abbrev pub ones : List Bool → ℕ
 ones bits = count_by (λ b. b) bits
 
+-- how many bits of the list are 0
 abbrev pub zeros : List Bool → ℕ
 zeros bits = count_by not bits
 

@@ -2,7 +2,7 @@
 ghost use Rattle.std.specs.Prelude.{◌≡◌, ℕ, ◌+◌, ◌-◌, ◌*◌, ◌<◌, ◌^◌, Bool, false, List, [], ◌∷◌, ◌++◌, length, slice_index_or};
 ghost use Rattle.tsc_bits.specs.Bits.{weight_of, bit_worth, bits_of, binary};
 
-/// Lists of bits and numbers say the same.
+/// Lists of n bits and the numbers below 2^n say the same.
 pub fn bits_are_numbers()
     ensures number { (n x : ℕ) → x < 2 ^ n → binary (bits_of n x) ≡ x }
     ensures list { (bits : List Bool) → bits_of (length bits) (binary bits) ≡ bits }

@@ -14,10 +14,12 @@ use Rattle.tsc_bits.proofs.Bits.{bit_worth-and, bit_worth-xor, mod-pow-suc, bina
 
 -- ---- the literals
 
+-- there are as many literals as are asked for
 pub length-literals : (n care value : ℕ) → length (literals n care value) ≡ n
 length-literals zero care value = refl
 length-literals (suc n) care value = ap suc (length-literals n care value)
 
+-- the literal at a pin is that of the pin's bits in both numbers
 pub literal_at-literals : (n care value pin : ℕ) → pin < n → literal_at (literals n care value) pin ≡ literal (bit_worth (n - 1 - pin) care) (bit_worth (n - 1 - pin) value)
 literal_at-literals zero care value pin h = absurd (omega arith)
 literal_at-literals (suc n) care value zero h =
@@ -149,6 +151,7 @@ narrow-value n row h =
     let narrow : row.care < 2 ^ n = h.narrow in
     omega arith
 
+-- the row that is made of a row's literals is that row
 pub row_with-literals : (n : ℕ) (row : Row01) → IsRow n row → row_with (literals_of n row) ≡ row
 row_with-literals n row h =
     let care : binary (map wants_bit (literals n row.care row.value)) ≡ row.care =
@@ -189,6 +192,7 @@ truth-table_of n on rows read h =
 pub wrong_sign-table_of : (n : ℕ) (on : Bool) (rows : List Row01) (pin : ℕ) → pin < n → wrong_sign (table_of n on rows) pin ≡ list_any (λ (row : Row01). bit_worth (n - 1 - pin) row.care && same (bit_worth (n - 1 - pin) row.value) (not on)) rows
 wrong_sign-table_of n on rows pin h = some_row_asks n rows pin (not on) h
 
+-- comparing both numbers decides whether two rows are the same
 pub row-Decides : (a b : Row01) → Decides (eqb a.care b.care && eqb a.value b.value) (a ≡ b)
 row-Decides a b = (λ h. same-parts h, λ e. and_from _ _ (eq-eqb a.care b.care (ap care_of e)) (eq-eqb a.value b.value (ap value_of e)))
   where

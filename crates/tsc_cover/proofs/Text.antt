@@ -20,11 +20,13 @@ literals_of_text-text_of_literals [] = refl
 literals_of_text-text_of_literals (l ∷ row) =
     ap₂ (λ x xs. x ∷ xs) (literal_of-character_of l) (literals_of_text-text_of_literals row)
 
+-- the text of literals is a text of a row
 pub is_row_text-text_of_literals : (row : List Literal) → is_row_text (text_of_literals row) ≡ true
 is_row_text-text_of_literals [] = refl
 is_row_text-text_of_literals (l ∷ row) =
     ap₂ (λ x y. x && y) (is_literal-character_of l) (is_row_text-text_of_literals row)
 
+-- the text of literals has one character per literal
 pub length-text_of_literals : (row : List Literal) → length (text_of_literals row) ≡ length row
 length-text_of_literals [] = refl
 length-text_of_literals (l ∷ row) = ap suc (length-text_of_literals row)
@@ -58,6 +60,7 @@ text_of_literals-literals_of_text (c ∷ text) h =
     let parts : (is_literal c ≡ true) × (is_row_text text ≡ true) = and_parts (is_literal c) (is_row_text text) h in
     ap₂ (λ x xs. x ∷ xs) (character_of-literal_of c parts.0) (text_of_literals-literals_of_text text parts.1)
 
+-- a text has one literal per character
 pub length-literals_of_text : (text : List ℕ) → length (literals_of_text text) ≡ length text
 length-literals_of_text [] = refl
 length-literals_of_text (c ∷ text) = ap suc (length-literals_of_text text)

@@ -29,7 +29,7 @@ row_matches [] bits = true
 row_matches (l ∷ row) [] = true
 row_matches (l ∷ row) (bit ∷ bits) = accepts l bit && row_matches row bits
 
--- a cover: how many pins it has, whether its rows are the on-set, and its rows, a literal a pin
+-- a cover: how many pins it has, whether its rows are the on-set, and its rows, with one literal per pin
 pub record CoverTable : Type 0 where
   pub width : ℕ
   pub on : Bool

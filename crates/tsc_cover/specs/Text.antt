@@ -1,4 +1,4 @@
--- Rows as characters, one a pin: `0` and `1` ask for that bit, and `-` for none.
+-- Rows as characters, one per pin: `0` and `1` ask for that bit, and `-` for none.
 use Rattle.std.specs.Prelude.{ℕ, ◌==◌, Bool, true, false, ◌||◌, if◌then◌else◌, List, map}
 use Rattle.std.specs.List.{list_all}
 use Rattle.tsc_cover.specs.Cover.{Literal, Free, Wants}

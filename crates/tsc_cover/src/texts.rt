@@ -39,7 +39,7 @@ pub fn char_at(row: &Row01, width: usize, pin: usize) -> u8
     character(bit_at(row.care, place), bit_at(row.value, place))
 }
 
-/// The characters of the row, one a pin, the first pin first.
+/// The characters of the row, one per pin, the first pin first.
 ///
 /// # Errors
 ///

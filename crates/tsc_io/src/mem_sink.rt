@@ -38,7 +38,7 @@ impl Model for MemSink {
 }
 
 impl MemSink {
-    /// A sink with room for `room` bytes, which takes at most `piece` a call. It fails the calls whose numbers, from 0, are in `fails`.
+    /// A sink with room for `room` bytes, which takes at most `piece` per call. It fails the calls whose numbers, from 0, are in `fails`.
     ///
     /// # Errors
     ///

@@ -37,7 +37,7 @@ impl Model for MemSource {
 }
 
 impl MemSource {
-    /// A source of `bytes`, which gives at most `piece` of them a call. It fails the calls whose numbers, from 0, are in `fails`.
+    /// A source of `bytes`, which gives at most `piece` of them per call. It fails the calls whose numbers, from 0, are in `fails`.
     pub fn new(bytes: Bytes, piece: usize, fails: CallList) -> MemSource
         requires { 0 < piece }
         ensures fresh { result ≡ record { left = bytes; piece = piece; fails = fails; calls = 0; faults = 0 } }

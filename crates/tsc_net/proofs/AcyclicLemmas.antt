@@ -7,7 +7,7 @@ use Rattle.std.proofs.lemmas.List.Elements.{All-nil, All-cons, All-push, All-con
 use Rattle.std.proofs.lemmas.List.Folds.{position_or_len_push}
 use Rattle.std.proofs.lemmas.List.{get_or-map, get_or_append_left, length-map}
 use Rattle.std.proofs.lemmas.Map.Made.{IsDistinct-from_AllPairs}
-use Rattle.indexmap.proofs.CallerLemmas.{Contains-list_any}
+use Rattle.std.proofs.lemmas.Map.Views.{Contains-from_any}
 use Rattle.std.proofs.lemmas.List.Sums.{AllPass-from_list_all}
 use Rattle.std.proofs.lemmas.Map.Steps.{length-le_from_distinct_below}
 use Rattle.fault_secure.specs.Circuit.{Circuit, node, node_net, pin_net, no_node}
@@ -121,9 +121,6 @@ default_free [] i d h = absurd (omega arith)
 default_free (x ∷ xs) zero d h = refl
 default_free (x ∷ xs) (suc i) d h = default_free xs i d (omega arith)
 
-Contains-list_any-nat : (xs : List ℕ) (q : ℕ) → list_any (eqb q) xs ≡ true → Contains xs q
-Contains-list_any-nat xs q e = Contains-list_any eqb (λ x y h. eqb-true x y h) xs q e
-
 -- nodes listed so far: each is one, once, after the nodes that it reads
 record IsListed (fans : List (List ℕ)) (listed : List ℕ) : Type 0 where
   within : All (λ j. j < length fans) listed
@@ -227,7 +224,7 @@ each_stands fans order all sized j hj = elim (cases_lt (place_in order j) (lengt
 
     below : (q : ℕ) → list_any (eqb q) (j ∷ order) ≡ true → q < length fans
     below q e = All-contains (λ k. k < length fans) (j ∷ order) q (All-cons (λ k. k < length fans) j order hj all.within)
-        (Contains-list_any-nat (j ∷ order) q e)
+        (Contains-from_any (λ x y h. eqb-true x y h) q (j ∷ order) e)
 
 -- the whole order
 listed-order : (most : ℕ) (fans : List (List ℕ)) (listed : List ℕ) → IsListed fans listed → IsListed fans (order_from most fans listed)

@@ -60,17 +60,25 @@ undriven-front driven all front back (Cycle nets) same h = h
 undriven-front driven all front back (Memory error) same h = tt
 
 -- what was made so far, and what the items that are left give: one item more
+module _ {A M B : Type 0} (f : M → B) (g : A → M) where
+  pub made-next : (made : List B) (new : B) (xs : List A) (i : ℕ) (x d : A) (whole : List B) → i < length xs → x ≡ slice_index_or xs i d
+      → new ≡ f (g x) → made ++ map f (map g (drop i xs)) ≡ whole
+      → (made ++ new ∷ []) ++ map f (map g (drop (i + 1) xs)) ≡ whole
+  made-next made new xs i x d whole h e same reading =
+      let rest = map f (map g (drop (i + 1) xs)) in
+      append_assoc made (new ∷ []) rest
+      ∙ ap (λ y. made ++ (y ∷ rest)) same
+      ∙ ap (λ l. made ++ map f l) (sym (map_drop g xs i x d h e))
+      ∙ reading
+
+-- the same of what is seen of what was made
 module _ {X A M B : Type 0} (seen : X → B) (f : M → B) (g : A → M) where
   pub reading-next : (made : List X) (new : X) (xs : List A) (i : ℕ) (x d : A) (whole : List B) → i < length xs → x ≡ slice_index_or xs i d
       → seen new ≡ f (g x) → map seen made ++ map f (map g (drop i xs)) ≡ whole
       → map seen (made ++ new ∷ []) ++ map f (map g (drop (i + 1) xs)) ≡ whole
   reading-next made new xs i x d whole h e same reading =
-      let rest = map f (map g (drop (i + 1) xs)) in
-      ap (λ l. l ++ rest) (map-push seen made new)
-      ∙ append_assoc (map seen made) (seen new ∷ []) rest
-      ∙ ap (λ y. map seen made ++ (y ∷ rest)) same
-      ∙ ap (λ l. map seen made ++ map f l) (sym (map_drop g xs i x d h e))
-      ∙ reading
+      ap (λ l. l ++ map f (map g (drop (i + 1) xs))) (map-push seen made new)
+      ∙ made-next f g (map seen made) (seen new) xs i x d whole h e same reading
 
 -- the search for a missing name after one that is driven, and after some that all are
 module _ {A : Type 0} (driven : List (List ℕ)) (f : A → List ℕ) where

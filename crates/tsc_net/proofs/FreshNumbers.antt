@@ -12,7 +12,7 @@ use Rattle.std.proofs.Math.Seq.{take-append_seam, drop-append_seam}
 use Rattle.std.proofs.lemmas.Bool.{cases_eq, or_parts}
 use Rattle.std.proofs.lemmas.List.{take-append-drop}
 use Rattle.std.proofs.lemmas.List.Sums.{passes_at_first}
-use Rattle.indexmap.proofs.IndexTableLemmas.Probe.{pigeonhole}
+use Rattle.tsc_bits.proofs.Pigeonhole.{pigeonhole}
 use Rattle.tsc_net.specs.Names.{has_text, with_text}
 use Rattle.tsc_net.specs.Parts.{LeavesFresh, begins_with, lettered_prefix, fresh_prefix, fresh_text, is_taken_under, is_taken, free_number_under, free_number_under_from, free_number}
 use Rattle.tsc_net.specs.PartsView.{IsFreshUnused, fresh_names}

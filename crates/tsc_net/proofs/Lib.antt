@@ -1,3 +1,4 @@
+pub mod SpanLemmas
 pub mod NameLemmas
 pub mod FreshLemmas
 pub mod FreshNumbers

@@ -22,6 +22,7 @@ use Rattle.tsc_net.specs.declared.machine.MachineRow.{MachineRow}
 bit_worth-above : (k n x : ℕ) → x < 2 ^ n → n ≤ k → bit_worth k x ≡ false
 bit_worth-above k n x h le = ap (λ w. eqb w 1) (bit_at_above x n k h le)
 
+-- each bit of 0 is 0
 pub bits_of-zero : (n : ℕ) → bits_of n 0 ≡ replicate n false
 bits_of-zero zero = refl
 bits_of-zero (suc n) = ap₂ (λ b bits. b ∷ bits) (bit_worth-zero n) (bits_of-zero n)
@@ -45,6 +46,7 @@ lets_pass-row_matches (l ∷ row) (b ∷ bits) x i h e =
     ap₂ (λ u v. u && v) (ap (accepts l) (sym (e 0 (omega arith) ∙ ap (bit x) here)))
     (lets_pass-row_matches row bits x (i + 1) (omega arith) (shifted bits x b i (length row) e))
 
+-- a row of the table answers at a state and an input exactly where its row of numbers does
 pub applies-row : (inputs outputs q input : ℕ) (row : MachineRow) → row.input.care < 2 ^ inputs
     → applies q (bits_of inputs input) (transition_of inputs outputs row) ≡ row_applies q input row
 applies-row inputs outputs q input row narrow =
@@ -293,6 +295,7 @@ module _ (inputs outputs states reset : ℕ) (rows : List MachineRow) (value : M
 
 -- ---- rows that answer at one state and input overlap
 
+-- two literals that let the same bit pass agree
 pub agree-from : (l m : Literal) (b : Bool) → accepts l b ≡ true → accepts m b ≡ true → agree l m ≡ true
 agree-from Free m b h g = refl
 agree-from (Wants w) Free b h g = refl

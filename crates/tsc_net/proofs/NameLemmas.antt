@@ -4,7 +4,7 @@ use Rattle.std.specs.Str.{bytes_eq}
 use Rattle.std.specs.Option.{is_some}
 use Rattle.std.specs.List.{list_any, position_or_len}
 use Rattle.std.proofs.lemmas.Slice.Eq.{bytes_eq-Decides}
-use Rattle.std.proofs.lemmas.List.Sums.{passes_at_first}
+use Rattle.std.proofs.lemmas.List.Sums.{passes_at_first, position_or_len_is}
 use Rattle.std.proofs.lemmas.Grind.{common_steps}
 use Rattle.std.proofs.lemmas.Bool.{cases_lt, lt-ltb, le-ltb, or_right}
 use Rattle.tsc_net.specs.Names.{has_text, with_text, place_of_text, find_text, text_at, IsNumbering}
@@ -173,6 +173,19 @@ find-there texts t e =
 pub find-absent : (texts : List (List ℕ)) (t : List ℕ) → has_text texts t ≡ false → find_text texts t ≡ None
 find-absent texts t e =
     ap (λ b. cond b (Some (place_of_text texts t)) None) (le-ltb (place_of_text texts t) (length texts) (let past = place_past texts t e in omega arith))
+
+-- a text is found where it stands first, and isn't where it stands nowhere
+module _ (names : List (List ℕ)) (t : List ℕ) where
+  pub find-first : (k : ℕ) → ((i : ℕ) → i < k → bytes_eq t (text_at names i) ≡ false) → k < length names → bytes_eq t (text_at names k) ≡ true
+      → find_text names t ≡ Some k
+  find-first k before within here =
+      let is : place_of_text names t ≡ k = position_or_len_is (bytes_eq t) names k [] (omega arith) before (λ h. here) in
+      ap (λ p. cond (nat_lt p (length names)) (Some p) None) is ∙ ap (λ b. cond b (Some k) None) (lt-ltb k (length names) within)
+
+  pub find-nowhere : ((i : ℕ) → i < length names → bytes_eq t (text_at names i) ≡ false) → find_text names t ≡ None
+  find-nowhere none =
+      let is : place_of_text names t ≡ length names = position_or_len_is (bytes_eq t) names (length names) [] (omega arith) none (λ h. absurd (omega arith)) in
+      ap (λ b. cond b (Some (place_of_text names t)) None) (le-ltb (place_of_text names t) (length names) (omega (arith, is)))
 
 pub found-has : (texts : List (List ℕ)) (t : List ℕ) → is_some (find_text texts t) ≡ has_text texts t
 found-has texts t = by (has_text texts t) refl

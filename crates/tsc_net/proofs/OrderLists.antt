@@ -22,9 +22,11 @@ empty_at lists all j = elim (cases_lt j (length lists)) [
 pub has_place-push : (places : List ℕ) (y j : ℕ) → has_place (places ++ y ∷ []) j ≡ (has_place places j || (y == j || false))
 has_place-push places y j = list_any-append (λ k. k == j) places (y ∷ [])
 
+-- a list has the place that was put at its end
 pub has_place-pushed : (places : List ℕ) (y : ℕ) → has_place (places ++ y ∷ []) y ≡ true
 has_place-pushed places y = has_place-push places y y ∙ or_right (has_place places y) _ (or_left (y == y) false (eq-eqb y y refl))
 
+-- a place of a list is one of it with one more at its end
 pub has_place-kept : (places : List ℕ) (y j : ℕ) → has_place places j ≡ true → has_place (places ++ y ∷ []) j ≡ true
 has_place-kept places y j h = has_place-push places y j ∙ or_left (has_place places j) _ h
 
@@ -47,12 +49,15 @@ has_place-cases places y j h = elim (cases_eq y j) [
 pub has_place-at : (places : List ℕ) (i d : ℕ) → i < length places → has_place places (get_or places i d) ≡ true
 has_place-at places i d h = list_any_at (λ k. k == get_or places i d) places i d h (eq-eqb _ _ refl)
 
+-- a list has the place that stands first in it
 pub has_place-head : (y : ℕ) (places : List ℕ) → has_place (y ∷ places) y ≡ true
 has_place-head y places = or_left (y == y) _ (eq-eqb y y refl)
 
+-- a place other than the first is one of the list exactly where it is one of the rest
 pub has_place-tail : (y j : ℕ) (places : List ℕ) → (y ≡ j → ⊥) → has_place (y ∷ places) j ≡ has_place places j
 has_place-tail y j places other = ap (λ b. b || has_place places j) (ne_eqb y j other)
 
+-- a place of a list is one of it with one more at its front
 pub has_place-rest : (y j : ℕ) (places : List ℕ) → has_place places j ≡ true → has_place (y ∷ places) j ≡ true
 has_place-rest y j places h = or_right (y == j) _ h
 

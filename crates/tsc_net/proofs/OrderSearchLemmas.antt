@@ -5,11 +5,10 @@ use Rattle.std.specs.BTreeSet.{insert_key}
 use Rattle.std.proofs.lemmas.List.{get_or-map, get_or_default, get_or-set_same, get_or-set_other, length-map, length-set, get_or_read}
 use Rattle.std.proofs.lemmas.Bool.{cases_eq, cases_lt, or_parts, or_from, or_cases, or_left, or_right, eqb-true, ne_eqb}
 use Rattle.std.proofs.lemmas.Bool.Decides.{nat_tests}
-use Rattle.fault_secure.specs.Circuit.{bit}
+use Rattle.fault_secure.specs.Circuit.{NodeOf, no_node, bit}
 use Rattle.tsc_net.specs.Order.{has_place, fan_in, ReadsWithin}
 use Rattle.tsc_net.specs.PlanView.{net_numbers}
 use Rattle.tsc_net.specs.declared.ids.NetId.{NetId}
-use Rattle.tsc_net.specs.declared.netlist.Node.{Node}
 use Rattle.tsc_net.specs.inner.OrderSearch.{nets_of, fans_over, is_passed, Reads, Waits, IsReady, IsWaiter, IsSearch}
 use Rattle.tsc_bits.specs.Lists.{list_at}
 use Rattle.tsc_net.proofs.OrderLists.{fan_in_has, has_place-insert, has_place-pushed, has_place-kept, has_place-cases, has_place-head, has_place-tail, has_place-rest, All-has_place, not_among_greater}
@@ -28,14 +27,14 @@ search_weaker base nets marks stops waiters ready pending rest fewer search = re
   complete = λ j h unmarked unready done. search.complete j h unmarked unready (fewer j h done);
 }
 
--- the nets of a node as it keeps them
-pub nets_at : (nodes : List Node) (now : List NetId) (node : ℕ) (d : Node) → node < length nodes → now ≡ (slice_index_or nodes node d).reads.items
+-- the nets of a node as they are read
+pub nets_at : (nodes : List NodeOf) (now : List NetId) (node : ℕ) → node < length nodes → net_numbers now ≡ (slice_index_or nodes node no_node).reads
     → net_numbers now ≡ list_at (nets_of nodes) node
-nets_at nodes now node d h is = ap net_numbers is ∙ sym (get_or-map (λ n. net_numbers n.reads.items) nodes node d [] h)
+nets_at nodes now node h is = is ∙ sym (get_or-map (λ n. n.reads) nodes node no_node [] h)
 
 -- as many fan-ins as nodes
-pub fans_many : (base : ℕ) (nodes : List Node) → length (fans_over base (nets_of nodes)) ≡ length nodes
-fans_many base nodes = length-map (nets_of nodes) (fan_in base) ∙ length-map nodes (λ n. net_numbers n.reads.items)
+pub fans_many : (base : ℕ) (nodes : List NodeOf) → length (fans_over base (nets_of nodes)) ≡ length nodes
+fans_many base nodes = length-map (nets_of nodes) (fan_in base) ∙ length-map nodes (λ n. n.reads)
 
 -- the number of a net at a place
 pub number_at : (nets : List NetId) (at : ℕ) → at < length nets
@@ -59,22 +58,22 @@ pins_within base nets j reads h k d inside = elim (cases_lt (get_or (list_at net
       omega (arith, below, many, past)
 ]
 
--- the same of the nets as a node keeps them
-pub reads_within : (base : ℕ) (nodes : List Node) (now : List NetId) (node many : ℕ) (d : Node) → ReadsWithin (fans_over base (nets_of nodes)) → node < length nodes
-    → now ≡ (slice_index_or nodes node d).reads.items → many ≡ length nodes → All (λ net. net < base + many) (net_numbers now)
-reads_within base nodes now node many d within h is count =
-    let long = length-map nodes (λ n. net_numbers n.reads.items) in
+-- the same of the nets of a node as they are read
+pub reads_within : (base : ℕ) (nodes : List NodeOf) (now : List NetId) (node many : ℕ) → ReadsWithin (fans_over base (nets_of nodes)) → node < length nodes
+    → net_numbers now ≡ (slice_index_or nodes node no_node).reads → many ≡ length nodes → All (λ net. net < base + many) (net_numbers now)
+reads_within base nodes now node many within h is count =
+    let long = length-map nodes (λ n. n.reads) in
     let sized : length (nets_of nodes) ≡ many = omega (arith, long, count) in
-    subst (All (λ net. net < base + many)) (sym (nets_at nodes now node d h is))
+    subst (All (λ net. net < base + many)) (sym (nets_at nodes now node h is))
     (subst (λ n. All (λ net. net < base + n) (list_at (nets_of nodes) node)) sized
     (pins_within base (nets_of nodes) node within (omega (arith, h, long))))
 
--- the fan-in of a node, of the nets that it keeps
-pub fan_seen : (base : ℕ) (nodes : List Node) (now : List NetId) (node : ℕ) (d : Node) → node < length nodes → now ≡ (slice_index_or nodes node d).reads.items
+-- the fan-in of a node, of the nets as they are read
+pub fan_seen : (base : ℕ) (nodes : List NodeOf) (now : List NetId) (node : ℕ) → node < length nodes → net_numbers now ≡ (slice_index_or nodes node no_node).reads
     → fan_in base (net_numbers now) ≡ list_at (fans_over base (nets_of nodes)) node
-fan_seen base nodes now node d h is =
-    let long = length-map nodes (λ n. net_numbers n.reads.items) in
-    ap (fan_in base) (nets_at nodes now node d h is) ∙ sym (get_or-map (fan_in base) (nets_of nodes) node [] [] (omega (arith, h, long)))
+fan_seen base nodes now node h is =
+    let long = length-map nodes (λ n. n.reads) in
+    ap (fan_in base) (nets_at nodes now node h is) ∙ sym (get_or-map (fan_in base) (nets_of nodes) node [] [] (omega (arith, h, long)))
 
 -- a pin at which a node waits: it reads the net of a node that isn't marked
 pub record WaitsAt (base : ℕ) (nets : List (List ℕ)) (marks : List Bool) (node stop net : ℕ) : Type 0 where

@@ -36,6 +36,7 @@ closed_reads C closed =
     (λ j hj. fan_in_within base (length C.nodes) (node C j).reads
     (All-from_get_or (λ net. net < base + length C.nodes) (node C j).reads 0 (λ pin hp. closed.pins j pin hj hp)))))
 
+-- a closed netlist in whose order each node has its place is as one that was built
 pub checked_from_order : (net : NetlistOf) → IsClosedNetlist net → has_whole_order (fan_ins net.circuit) ≡ true → IsBuilt net
 checked_from_order net sound whole = record {
   closed = sound.closed;

@@ -19,6 +19,7 @@ use Rattle.tsc_bits.proofs.Lists.{map_agrees}
 -- the texts of names in a table that grows
 module _ (old new : List (List ℕ)) (longer : length old ≤ length new)
     (kept : (k : ℕ) → k < length old → text_at new k ≡ text_at old k) where
+  -- names of the old table have the same texts in the new one
   pub texts_kept : (list : List Name) → All (IsName old) list → texts_of new list ≡ texts_of old list
   texts_kept list all = map_agrees (IsName old) (text_of new) (text_of old) (λ n h. kept n.number h) list all
 
@@ -40,6 +41,7 @@ module _ (old new : List (List ℕ)) (longer : length old ≤ length new)
       let rest = nodes_kept list (All-tail (λ n. All (IsName old) n.reads.items) n list reads) (All-tail (λ n. IsName old n.out) n list outs) in
       cc
 
+  -- names of the old table are names of the new one
   pub names_kept : (list : List Name) → All (IsName old) list → All (IsName new) list
   names_kept list all = All-weaker (IsName old) (IsName new) (λ n h. omega arith) list all
 

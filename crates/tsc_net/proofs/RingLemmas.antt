@@ -35,6 +35,7 @@ position-past (k ∷ path) j h =
     let rest = position-past path j parts.1 in
     rw parts.0 (omega (arith, rest))
 
+-- the position of a place that a path has is below the path's length
 pub position-within : (path : List ℕ) (j : ℕ) → has_place path j ≡ true → position_or_len (λ k. k == j) path < length path
 position-within [] j h = absurd (true≢false (sym h))
 position-within (k ∷ path) j h = by (k == j) refl (position-within path j)

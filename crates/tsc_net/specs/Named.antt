@@ -26,6 +26,7 @@ pub record Named : Type 0 where
 abbrev pub latch_outs : Named → List (List ℕ)
 latch_outs N = map (λ l. l.out) N.latches
 
+-- what the nodes drive
 abbrev pub node_outs : Named → List (List ℕ)
 node_outs N = map (λ n. n.out) N.nodes
 

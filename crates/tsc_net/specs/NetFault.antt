@@ -13,6 +13,7 @@ abbrev pub repeat_after : List (List ℕ) → List (List ℕ) → Option (List �
 repeat_after seen [] = None
 repeat_after seen (text ∷ texts) = if has_text seen text then Some text else repeat_after (seen ++ text ∷ []) texts
 
+-- the first text that stands among the earlier ones
 abbrev pub first_repeat : List (List ℕ) → Option (List ℕ)
 first_repeat texts = repeat_after [] texts
 
@@ -30,14 +31,17 @@ joined (texts ∷ lists) = texts ++ joined lists
 abbrev pub reads_of : Named → List (List ℕ)
 reads_of N = (joined (map (λ n. n.reads) N.nodes) ++ map (λ l. l.reads) N.latches) ++ N.outputs
 
+-- the fault that this name stands twice, where there is one
 abbrev pub twice : Option (List ℕ) → Option NetError
 twice None = None
 twice (Some text) = Some (Twice text)
 
+-- the fault that nothing drives this name, where there is one
 abbrev pub undriven : Option (List ℕ) → Option NetError
 undriven None = None
 undriven (Some text) = Some (Undriven text)
 
+-- the fault that there is no output, where the list is empty
 abbrev pub no_outputs : List (List ℕ) → Option NetError
 no_outputs [] = Some NoOutputs
 no_outputs (text ∷ texts) = None
@@ -46,6 +50,7 @@ no_outputs (text ∷ texts) = None
 abbrev pub ring_of : Named → List (List ℕ)
 ring_of N = map (λ j. text_at (drivers N) (node_net (circuit_of N) j)) (ring (fan_ins (circuit_of N)))
 
+-- the fault of a ring, with the names of its nets, where not each node has its place in the order
 abbrev pub cycle : Named → Option NetError
 cycle N = if has_whole_order (fan_ins (circuit_of N)) then None else Some (Cycle (ring_of N))
 

@@ -48,6 +48,7 @@ drivers N = (N.inputs ++ latch_outs N) ++ node_outs N
 abbrev pub numbered_latch : List (List ℕ) → NamedLatch → LatchOf
 numbered_latch driven l = record { reads = place_of_text driven l.reads; init = l.init }
 
+-- a node with each net by its place among what is driven
 abbrev pub numbered_node : List (List ℕ) → NamedNode → NodeOf
 numbered_node driven n = record { reads = map (place_of_text driven) n.reads; cover = n.cover }
 

@@ -1,29 +1,25 @@
 -- What is seen of a netlist of the code, and what it keeps.
 use Rattle.std.specs.Prelude.{◌≡◌, map}
-use Rattle.fault_secure.specs.Circuit.{LatchOf, NodeOf}
+use Rattle.fault_secure.specs.Circuit.{LatchOf}
 use Rattle.tsc_net.specs.NetlistOf.{NetlistOf, IsBuilt}
 use Rattle.tsc_net.specs.Order.{fan_ins, evaluation_order, IsOrder}
 use Rattle.tsc_net.specs.PartsView.{model_or}
 use Rattle.tsc_net.specs.PlanView.{net_numbers}
 use Rattle.tsc_net.specs.declared.netlist.Latch.{Latch}
-use Rattle.tsc_net.specs.declared.netlist.Node.{Node}
 use Rattle.tsc_net.specs.declared.netlist.Netlist.TheInside.{Inside}
 
 abbrev pub latch_as : Latch → LatchOf
 latch_as l = record { reads = l.reads.number; init = l.init }
-
-abbrev pub node_as : Node → NodeOf
-node_as n = record { reads = net_numbers n.reads.items; cover = n.cover }
 
 abbrev pub netlist_as : Inside → NetlistOf
 netlist_as n = record {
   circuit = record {
     inputs = n.inputs;
     latches = map latch_as n.latches.items;
-    nodes = map node_as n.nodes.items;
+    nodes = n.nodes;
     outputs = net_numbers n.outputs;
   };
-  names = n.names.nets;
+  names = n.names;
   model = model_or n.model;
 }
 

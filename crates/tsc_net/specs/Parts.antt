@@ -82,6 +82,7 @@ is_taken names number = is_taken_under 116 names number
 abbrev pub free_number_from : List (List ℕ) → ℕ → ℕ → ℕ
 free_number_from names tries number = free_number_under_from 116 names tries number
 
+-- the least number for which no name begins as fresh names with it do
 abbrev pub free_number : List (List ℕ) → ℕ
 free_number names = free_number_under 116 names
 

@@ -1,9 +1,9 @@
 //! From parts to a checked netlist.
-ghost use Rattle.std.specs.Prelude.{◌≡◌, ◌+◌, ◌<◌, ◌^◌, ◌++◌, None, map, length, All, IfOk, IfErr, OnOk, true};
+ghost use Rattle.std.specs.Prelude.{◌≡◌, ◌+◌, ◌<◌, ◌^◌, [], ◌∷◌, ◌++◌, None, map, length, All, IfOk, IfErr, OnOk, true};
 ghost use Rattle.tsc_net.specs.Names.{has_text, place_of_text, text_at};
 ghost use Rattle.tsc_net.specs.NetlistOf.{named_of, netlist_of, drivers, numbered_latch, numbered_node};
 ghost use Rattle.tsc_net.specs.NetFault.{fault_of, first_repeat, first_missing, reads_of, no_outputs, IsRefusedFor};
-ghost use Rattle.tsc_net.specs.NetlistView.{latch_as, node_as};
+ghost use Rattle.tsc_net.specs.NetlistView.{latch_as};
 ghost use Rattle.tsc_net.specs.Order.{fan_ins, evaluation_order, has_whole_order, ReadsWithin};
 ghost use Rattle.tsc_net.specs.PartsView.{text_of, texts_of, latch_of, node_of, IsName};
 ghost use Rattle.tsc_net.specs.PlanView.{net_numbers};
@@ -13,11 +13,14 @@ ghost use Rattle.tsc_net.specs.inner.BuildView.{unordered_as};
 ghost use Rattle.tsc_net.specs.inner.NetNames.{KeepsMarks};
 
 use crate::ids::{Name, NameList, NameTexts, NetId, Nets};
+use crate::indexed::IndexedNetlist;
 use crate::net_error::NetError;
 use crate::net_names::{Driven, NetNames, marks_of};
-use crate::netlist::{Latch, Netlist, Node};
+use crate::netlist::{Latch, Netlist};
+use crate::node_list::NodeList;
 use crate::order::{Found, evaluation_order};
 use crate::parts::{LatchPart, NodePart, Parts};
+use crate::texts::Texts;
 use smallvec::SmallVec;
 use std::alloc::{AllocError, Global};
 use tsc_io::{Bytes, Items};
@@ -27,26 +30,43 @@ use tsc_io::{Bytes, Items};
 struct Unordered {
     inputs: usize,
     latches: Vec<Latch>,
-    nodes: Vec<Node>,
+    nodes: NodeList,
     outputs: Nets,
     names: NetNames,
     model: Option<Bytes>,
 }
 
-impl Netlist {
+impl Parts {
     /// The netlist that the parts state, or their first fault.
     ///
     /// # Errors
     ///
     /// In this order: a name driven twice, a name shown twice, a name that nothing drives, no output, a ring of nodes.
-    #[tactic(none)]
-    pub fn build(alloc: Global, parts: Parts) -> Result<Netlist, NetError>
-        ensures same { IfOk result (λ net. named_of net ≡ parts.named) }
-        ensures exact { IfOk result (λ net. net ≡ netlist_of parts.named) }
-        ensures sound { OnOk result (fault_of parts.named ≡ None) }
-        ensures refused { IfErr result (IsRefusedFor parts.named) }
+    pub fn build(self, alloc: Global) -> Result<Netlist, NetError>
+        ensures same { IfOk result (λ net. named_of net ≡ self.named) }
+        ensures exact { IfOk result (λ net. net ≡ netlist_of self.named) }
+        ensures sound { OnOk result (fault_of self.named ≡ None) }
+        ensures refused { IfErr result (IsRefusedFor self.named) }
     {
-        let net = numbered(alloc, parts)?;
+        match self.build_indexed(alloc) {
+            Ok(indexed) => Ok(indexed.into_netlist()),
+            Err(error) => Err(error),
+        }
+    }
+
+    /// The same netlist with the table of its names, for who looks up many.
+    ///
+    /// # Errors
+    ///
+    /// Those of `build`.
+    #[tactic(none)]
+    pub fn build_indexed(self, alloc: Global) -> Result<IndexedNetlist, NetError>
+        ensures same { IfOk result (λ net. named_of net ≡ self.named) }
+        ensures exact { IfOk result (λ net. net ≡ netlist_of self.named) }
+        ensures sound { OnOk result (fault_of self.named ≡ None) }
+        ensures refused { IfErr result (IsRefusedFor self.named) }
+    {
+        let net = numbered(alloc, self)?;
         ordered(alloc, net)
     }
 }
@@ -138,7 +158,7 @@ fn outputs_of(alloc: Global, names: &NetNames, outputs: &[Name]) -> Result<Nets,
 
 /// The netlist with the order of its nodes, or the ring that keeps them from one.
 #[tactic(none)]
-fn ordered(alloc: Global, net: Unordered) -> Result<Netlist, NetError>
+fn ordered(alloc: Global, net: Unordered) -> Result<IndexedNetlist, NetError>
     requires sound { IsClosedNetlist (unordered_as net) }
     ensures same { IfOk result (λ ordered. ordered ≡ unordered_as net) }
     ensures whole { OnOk result (has_whole_order (fan_ins (unordered_as net).circuit) ≡ true) }
@@ -146,30 +166,57 @@ fn ordered(alloc: Global, net: Unordered) -> Result<Netlist, NetError>
 {
     let first_node = net.inputs + net.latches.len();
     let order = order_of(alloc, &net.nodes, &net.names, first_node)?;
-    Ok(Netlist {
+    let names = texts_of_nets(alloc, &net.names).map_err(NetError::Memory)?;
+    Ok(indexed(net, names, order))
+}
+
+/// The netlist with this order of its nodes and these names, and the table of its names.
+#[tactic(none)]
+fn indexed(net: Unordered, names: Texts, order: Vec<usize>) -> IndexedNetlist
+    requires sound { IsClosedNetlist (unordered_as net) }
+    requires names { names ≡ net.names.nets }
+    requires order { order.items ≡ evaluation_order (fan_ins (unordered_as net).circuit) }
+    requires whole { has_whole_order (fan_ins (unordered_as net).circuit) ≡ true }
+    ensures same { result ≡ unordered_as net }
+{
+    let key = net.names.key();
+    let checked = Netlist {
         inputs: net.inputs,
         latches: net.latches,
         nodes: net.nodes,
         outputs: net.outputs,
-        names: net.names,
+        names,
+        key,
         model: net.model,
         order,
-    })
+    };
+    IndexedNetlist::new(checked, net.names)
+}
+
+/// The names of the nets, end to end.
+fn texts_of_nets(alloc: Global, names: &NetNames) -> Result<Texts, AllocError>
+    ensures texts { IfOk result (λ texts. texts ≡ names.now.nets) }
+{
+    let mut texts = Texts::new(alloc);
+    for net in 0..names.len() {
+        texts.push(names.text(net))?;
+    }
+    Ok(texts)
 }
 
 /// The order of nodes, of which the first drives the net `first_node`, or their ring.
 fn order_of(
     alloc: Global,
-    nodes: &[Node],
+    nodes: &NodeList,
     names: &NetNames,
     first_node: usize,
 ) -> Result<Vec<usize>, NetError>
-    requires within { ReadsWithin (fans_from first_node (map node_as nodes.now)) }
+    requires within { ReadsWithin (fans_from first_node (nodes.now)) }
     requires named { first_node + length nodes.now ≡ length names.now.nets }
     requires few { length names.now.nets < 2 ^ 32 }
-    ensures order { IfOk result (λ order. order.items ≡ evaluation_order (fans_from first_node (map node_as nodes.now))) }
-    ensures whole { OnOk result (has_whole_order (fans_from first_node (map node_as nodes.now)) ≡ true) }
-    ensures refused { IfErr result (IsRingOf (fans_from first_node (map node_as nodes.now)) names.now.nets first_node) }
+    ensures order { IfOk result (λ order. order.items ≡ evaluation_order (fans_from first_node (nodes.now))) }
+    ensures whole { OnOk result (has_whole_order (fans_from first_node (nodes.now)) ≡ true) }
+    ensures refused { IfErr result (IsRingOf (fans_from first_node (nodes.now)) names.now.nets first_node) }
 {
     match found(alloc, nodes, first_node) {
         Err(error) => Err(NetError::Memory(error)),
@@ -179,9 +226,9 @@ fn order_of(
 }
 
 /// The order of nodes, of which the first drives the net `first_node`, or their ring, by places. Its clauses speak of the nodes as a circuit has them.
-fn found(alloc: Global, nodes: &[Node], first_node: usize) -> Result<Found, AllocError>
-    requires within { ReadsWithin (fans_from first_node (map node_as nodes.now)) }
-    ensures found { IfOk result (IsFound (fans_from first_node (map node_as nodes.now))) }
+fn found(alloc: Global, nodes: &NodeList, first_node: usize) -> Result<Found, AllocError>
+    requires within { ReadsWithin (fans_from first_node (nodes.now)) }
+    ensures found { IfOk result (IsFound (fans_from first_node (nodes.now))) }
 {
     evaluation_order(alloc, nodes, first_node)
 }
@@ -281,31 +328,44 @@ fn pin_nets(alloc: Global, names: &NetNames, list: &[Name]) -> Result<SmallVec<N
     Ok(nets)
 }
 
-/// A node, with the nets that its pins read.
-fn node_of(alloc: Global, names: &NetNames, part: NodePart) -> Result<Node, NetError>
+/// Adds a node, with the nets that its pins read.
+fn add_node(
+    alloc: Global,
+    names: &NetNames,
+    part: NodePart,
+    nodes: &mut NodeList,
+) -> Result<(), NetError>
     requires names { All (IsName names.now.names) part.reads.items }
-    ensures node { IfOk result (λ node. node_as node ≡ numbered_node names.now.nets (node_of names.now.names part)) }
+    ensures node { OnOk result (nodes.new ≡ nodes.old ++ numbered_node names.now.nets (node_of names.now.names part) ∷ []) }
     ensures driven { OnOk result (first_missing names.now.nets (texts_of names.now.names part.reads.items) ≡ None) }
     ensures undriven { IfErr result (IsUndriven names.now.nets (texts_of names.now.names part.reads.items)) }
 {
     let NodePart { reads, cover, .. } = part;
     let reads = pin_nets(alloc, names, &reads)?;
-    Ok(Node { reads, cover })
+    nodes.push(&reads, cover).map_err(NetError::Memory)
+}
+
+/// How many pins nodes have, for the room that they take.
+fn pin_count(parts: &[NodePart]) -> usize {
+    let mut count = 0usize;
+    for part in parts {
+        count = count.saturating_add(part.reads.len());
+    }
+    count
 }
 
 /// The nodes, with the nets that their pins read.
-fn nodes_of(alloc: Global, names: &NetNames, parts: Vec<NodePart>) -> Result<Vec<Node>, NetError>
+fn nodes_of(alloc: Global, names: &NetNames, parts: Vec<NodePart>) -> Result<NodeList, NetError>
     requires names { All (λ part. All (IsName names.now.names) part.reads.items) parts.items }
-    ensures nodes { IfOk result (λ nodes. map node_as nodes.items ≡ map (numbered_node names.now.nets) (map (node_of names.now.names) parts.items)) }
+    ensures nodes { IfOk result (λ nodes. nodes ≡ map (numbered_node names.now.nets) (map (node_of names.now.names) parts.items)) }
     ensures driven { OnOk result (first_missing names.now.nets (node_reads (map (node_of names.now.names) parts.items)) ≡ None) }
     ensures undriven { IfErr result (IsUndriven names.now.nets (node_reads (map (node_of names.now.names) parts.items))) }
 {
-    let mut nodes = Vec::with_capacity(alloc, parts.len()).map_err(NetError::Memory)?;
+    let mut nodes = NodeList::with_room(alloc, parts.len(), pin_count(&parts)).map_err(
+        NetError::Memory,
+    )?;
     for part in parts {
-        let node = node_of(alloc, names, part)?;
-        nodes
-            .push(node)
-            .map_err(|failed| NetError::Memory(failed.into()))?;
+        add_node(alloc, names, part, &mut nodes)?;
     }
     Ok(nodes)
 }

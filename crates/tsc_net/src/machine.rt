@@ -75,7 +75,8 @@ impl Model for Machine {
 }
 
 impl Machine {
-    /// The machine with these rows. It takes no memory.
+    /// The machine with these rows, from 1 to 64 inputs, from 1 to 64 outputs, and at most 4,096 states. The reset state is one of them, and
+    /// rows that overlap agree. It takes no memory.
     pub fn of(
         inputs: usize,
         outputs: usize,

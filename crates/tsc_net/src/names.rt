@@ -4,6 +4,8 @@ ghost use Rattle.std.specs.List.{list_any};
 ghost use Rattle.tsc_net.specs.Parts.{begins_with, free_number_under, is_taken_under};
 ghost use Rattle.tsc_net.specs.Names.{has_text, with_text, place_of_text, find_text, text_at, IsNumbering};
 
+use crate::ids::NetId;
+use crate::netlist::Netlist;
 use crate::sought::Sought;
 use indexmap::IndexSet;
 use smallvec::SmallVec;
@@ -37,6 +39,24 @@ impl NameTable {
         NameTable {
             texts: IndexSet::with_hasher(alloc, key),
         }
+    }
+
+    /// The names of the nets of a netlist, each with the number of its net, for who looks up many.
+    ///
+    /// # Errors
+    ///
+    /// Want of memory.
+    pub fn of(alloc: Global, net: &Netlist) -> Result<NameTable, AllocError>
+        ensures names { IfOk result (λ table. table ≡ net.now.names) }
+    {
+        let mut table = NameTable::new(alloc, net.key());
+        for number in 0..net.nets() {
+            let id = NetId {
+                number: number as u32,
+            };
+            table.add(net.name(id))?;
+        }
+        Ok(table)
     }
 
     /// The key of the table, for tables of the same names.

@@ -9,8 +9,8 @@ ghost use Rattle.tsc_net.specs.Order.{fan_ins, evaluation_order, IsOrder};
 ghost use Rattle.tsc_net.specs.PlanView.{net_numbers};
 
 use crate::ids::{NetId, Nets};
-use crate::net_names::NetNames;
-use smallvec::SmallVec;
+use crate::node_list::NodeList;
+use crate::texts::Texts;
 use std::marker::Model;
 use tsc_cover::Cover;
 use tsc_io::{Bytes, TextKey};
@@ -22,15 +22,6 @@ pub struct Latch {
     pub reads: NetId,
     /// The bit that it holds first.
     pub init: bool,
-}
-
-/// A node, as it is kept.
-#[derive(Drop)]
-pub struct Node {
-    /// The nets at its pins.
-    pub reads: SmallVec<NetId, 4>,
-    /// What it makes of them.
-    pub cover: Cover,
 }
 
 /// A latch: the net that it reads, the net that it gives, and the bit that it holds first.
@@ -49,9 +40,10 @@ pub struct LatchView {
 pub struct Netlist {
     pub(crate) inputs: usize,
     pub(crate) latches: Vec<Latch>,
-    pub(crate) nodes: Vec<Node>,
+    pub(crate) nodes: NodeList,
     pub(crate) outputs: Nets,
-    pub(crate) names: NetNames,
+    pub(crate) names: Texts,
+    pub(crate) key: TextKey,
     pub(crate) model: Option<Bytes>,
     pub(crate) order: Vec<usize>,
 }
@@ -138,7 +130,7 @@ impl Netlist {
         requires within { place < length self.now.circuit.nodes }
         ensures reads { net_numbers result.now ≡ (node self.now.circuit place).reads }
     {
-        self.nodes[place].reads.as_slice()
+        self.nodes.reads(place)
     }
 
     /// The cover of the node at `place`, which has a pin a net that the node reads.
@@ -146,7 +138,7 @@ impl Netlist {
         requires within { place < length self.now.circuit.nodes }
         ensures cover { result.now ≡ (node self.now.circuit place).cover }
     {
-        &self.nodes[place].cover
+        self.nodes.cover(place)
     }
 
     /// The name of a net.
@@ -157,16 +149,19 @@ impl Netlist {
         self.names.text(net.number as usize)
     }
 
-    /// The net with this name, if there is one.
+    /// The net with this name, if there is one. It goes through the names: who looks up many makes a table of them (`NameTable::of`).
     pub fn net(&self, name: &[u8]) -> Option<NetId>
         ensures net { option_map (λ net. net.number) result ≡ find_text self.now.names name.now }
     {
-        self.names.find(name)
+        let place = self.names.find(name)?;
+        Some(NetId {
+            number: place as u32,
+        })
     }
 
     /// The key of the text whose names the netlist has, for what is built over it.
     pub fn key(&self) -> TextKey {
-        self.names.key()
+        self.key
     }
 
     /// The name of the model.

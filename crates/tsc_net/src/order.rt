@@ -8,7 +8,7 @@ ghost use Rattle.tsc_bits.specs.Lists.{list_at};
 ghost use Rattle.fault_secure.specs.Circuit.{bit};
 
 use crate::ids::NetId;
-use crate::netlist::Node;
+use crate::node_list::NodeList;
 use crate::ring::ring;
 use crate::waiters::Waiters;
 use std::alloc::{AllocError, Global};
@@ -37,7 +37,7 @@ struct Search {
 /// The evaluation order of nodes, of which the first drives the net `first_node`, or the ring where there is none.
 pub(crate) fn evaluation_order(
     alloc: Global,
-    nodes: &[Node],
+    nodes: &NodeList,
     first_node: usize,
 ) -> Result<Found, AllocError>
     requires within { ReadsWithin (fans_over first_node (nets_of nodes.now)) }
@@ -55,7 +55,7 @@ pub(crate) fn evaluation_order(
 /// Lists the nodes that have a place in the order, and marks them.
 fn list_nodes(
     alloc: Global,
-    nodes: &[Node],
+    nodes: &NodeList,
     first_node: usize,
     is_listed: &mut [bool],
 ) -> Result<Vec<usize>, AllocError>
@@ -95,7 +95,7 @@ impl Search {
     /// Looks at each node for the first time.
     fn begin(
         &mut self,
-        nodes: &[Node],
+        nodes: &NodeList,
         first_node: usize,
         is_listed: &[bool],
     ) -> Result<(), AllocError>
@@ -113,7 +113,7 @@ impl Search {
     /// Looks again at nodes whose wait is over.
     fn look_again(
         &mut self,
-        nodes: &[Node],
+        nodes: &NodeList,
         first_node: usize,
         is_listed: &[bool],
         woken: &[usize],
@@ -133,7 +133,7 @@ impl Search {
     /// Puts a node that isn't listed among the ready ones, or has it wait on the next one that it reads and isn't listed.
     fn look(
         &mut self,
-        nodes: &[Node],
+        nodes: &NodeList,
         first_node: usize,
         is_listed: &[bool],
         node: usize,
@@ -147,7 +147,7 @@ impl Search {
         ensures search { (pending : ℕ → Bool) → IsSearch first_node (nets_of nodes.now) is_listed.now self.old.stops.items self.old.waiters self.old.ready.keys (λ j. (node == j) || pending j)
             → OnOk result (IsSearch first_node (nets_of nodes.now) is_listed.now self.new.stops.items self.new.waiters self.new.ready.keys pending) }
     {
-        let reads = nodes[node].reads.as_slice();
+        let reads = nodes.reads(node);
         let stop = first_unlisted(reads, first_node, is_listed, self.stops[node]);
         self.stops[node] = stop;
         if stop < reads.len() {

@@ -36,7 +36,7 @@ pub struct NodePart {
     pub cover: Cover,
 }
 
-/// A netlist by names, as it is collected. Nothing of it is checked until `Netlist::build`.
+/// A netlist by names, as it is collected. Nothing of it is checked until `build`.
 #[derive(Drop)]
 pub struct Parts {
     alloc: Global,

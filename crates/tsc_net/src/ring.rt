@@ -5,14 +5,14 @@ ghost use Rattle.tsc_net.specs.inner.OrderSearch.{nets_of, fans_over, MarksOf};
 ghost use Rattle.tsc_bits.specs.Lists.{list_at};
 ghost use Rattle.fault_secure.specs.Circuit.{bit};
 
-use crate::netlist::Node;
+use crate::node_list::NodeList;
 use crate::order::{first_unlisted, zeros};
 use std::alloc::{AllocError, Global};
 
 /// The ring: the walk from the first node that isn't listed to the first that it reads and isn't listed, and so on.
 pub(crate) fn ring(
     alloc: Global,
-    nodes: &[Node],
+    nodes: &NodeList,
     first_node: usize,
     is_listed: &[bool],
 ) -> Result<Vec<usize>, AllocError>
@@ -56,14 +56,14 @@ fn first_unmarked(is_listed: &[bool]) -> usize
 }
 
 /// The first node that a node reads and isn't listed, or 0.
-fn blocker_of(nodes: &[Node], first_node: usize, is_listed: &[bool], node: usize) -> usize
+fn blocker_of(nodes: &NodeList, first_node: usize, is_listed: &[bool], node: usize) -> usize
     requires within { ReadsWithin (fans_over first_node (nets_of nodes.now)) }
     requires node { node < length nodes.now }
     requires marked { MarksOf (fans_over first_node (nets_of nodes.now)) is_listed.now (evaluation_order (fans_over first_node (nets_of nodes.now))) }
     ensures blocker { result ≡ blocker (evaluation_order (fans_over first_node (nets_of nodes.now))) (list_at (fans_over first_node (nets_of nodes.now)) node) }
     ensures within { result < length nodes.now }
 {
-    let reads = nodes[node].reads.as_slice();
+    let reads = nodes.reads(node);
     let stop = first_unlisted(reads, first_node, is_listed, 0);
     if stop < reads.len() {
         reads[stop].number as usize - first_node

@@ -1,4 +1,4 @@
--- How many rows are out: all rows but the free ones, and as many entries has the map of the rows that are out.
+-- How many rows are out: all rows except the free ones, and as many entries has the map of the rows that are out.
 use Rattle.std.proofs.Common.{◌≡◌, ℕ, zero, suc, ◌+◌, ◌<◌, Bool, true, false, ◌||◌, cond, List, [], ◌∷◌, length, refl, ◌∙◌, ap, arith}
 use Rattle.std.specs.Prelude.{nat_eq, nat_lt, is_some, None}
 use Rattle.std.specs.List.{IsDistinct, AllByRecursion}

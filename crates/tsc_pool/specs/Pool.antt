@@ -4,7 +4,7 @@ use Rattle.std.specs.List.{list_any, IsDistinct}
 use Rattle.std.specs.Ordering.{nat_cmp}
 use Rattle.std.specs.FinMap as map
 
--- what contracts see of a pool: how many rows it has, how many words a row has, the words of all rows one after another, and the indexes of the free rows, the one that is taken next at the end
+-- what contracts see of a pool: how many rows it has, how many words a row has, the words of all rows one after another, and the indexes of the free rows. The one that is taken next stands at the end
 pub record PoolState : Type 0 where
   pub rows : ℕ
   pub width : ℕ
@@ -35,7 +35,7 @@ place_of pool index word = index * pool.width + word
 abbrev pub words_of : PoolState → ℕ → List ℕ
 words_of pool index = take pool.width (drop (index * pool.width) pool.block)
 
--- the map with one entry more, unless the row is free
+-- the map with one more entry, unless the row is free
 abbrev pub with_entry : Bool → map.FinMap nat_cmp (List ℕ) → ℕ → List ℕ → map.FinMap nat_cmp (List ℕ)
 with_entry true entries index words = entries
 with_entry false entries index words = map.insert entries index words

@@ -7,8 +7,8 @@ use Rattle.unate_synth.specs.UnateNetlist.{IsUnateNetlist}
 use Rattle.parity_synth.specs.ParityNet.{IsParityNetlist}
 use Rattle.duplex_synth.specs.DuplexNet.{IsDuplexNetlist}
 
--- the netlist and the plan are those of the network: under parity, with a copy for each group or with one that all share, every node of
--- them, under the other codes all that the code and the layout ask for
+-- the netlist and the plan are those of the network. Under parity, with one copy for each group or one that all share, that is every node
+-- of them; under the other codes it is all that the code and the layout ask for
 abbrev pub IsNetlistOf : Way → NetlistOf → NetlistOf → CodePlan → Type 0
 IsNetlistOf Parity S N P = IsParityNetlist S N P
 IsNetlistOf Duplex S N P = IsDuplexNetlist S N P

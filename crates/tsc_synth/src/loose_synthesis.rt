@@ -15,11 +15,11 @@ use synth_ways::Way;
 use tsc_net::{Loose, Plan, PlannedNetlist};
 
 /// A netlist with check bits and a checker, made in some way, for a source with free bits, of at most 64 different outputs. It is that of
-/// the network of the chosen values, and answers these; its plan has version 2, under which free bits are free.
+/// the network of the chosen values, and gives these; its plan has version 2, under which free bits are free.
 ///
 /// # Errors
 ///
-/// As `synth` has them, of the network of the chosen values.
+/// As `synth` has them, for the network of the chosen values.
 pub fn synth_loose(alloc: Global, source: &Loose, way: Way) -> Result<PlannedNetlist, SynthError>
     requires loose { IsLooseSource source.now.value.circuit source.now.free.circuit }
     requires few { length source.now.value.circuit.outputs ≤ 64 }

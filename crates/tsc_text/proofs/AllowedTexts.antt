@@ -12,6 +12,7 @@ use Rattle.tsc_text.proofs.AllowedWords.{IsAllowed}
 use Rattle.tsc_text.proofs.Digits.{number_of-decimal}
 use Rattle.tsc_text.proofs.Written.{Both, both}
 
+-- two texts of allowed bytes make one of allowed bytes
 pub IsAllowed-append : (xs ys : List ℕ) → IsAllowed xs → IsAllowed ys → IsAllowed (xs ++ ys)
 IsAllowed-append xs ys h k = list_all-append is_allowed xs ys ∙ ap₂ (λ a b. a && b) h k
 

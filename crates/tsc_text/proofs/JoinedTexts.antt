@@ -18,6 +18,7 @@ pub pieces-append : (a b : List ℕ) → pieces is_feed (a ++ 10 ∷ b) ≡ piec
 pieces-append [] b = refl
 pieces-append (c ∷ a) b = ap (with_byte (is_feed c) c) (pieces-append a b) ∙ with_byte-append (is_feed c) c (pieces is_feed a) (pieces is_feed b) (some-pieces is_feed a)
 
+-- two texts with a line feed between them have the physical lines of both, one after the other
 pub physical_lines-append : (a b : List ℕ) → physical_lines (a ++ 10 ∷ b) ≡ physical_lines a ++ physical_lines b
 physical_lines-append a b = ap (map without_return) (pieces-append a b) ∙ map-append without_return (pieces is_feed a) (pieces is_feed b)
 

@@ -33,6 +33,7 @@ slice_range-more text a at d h k =
     ap (λ (n : ℕ). take n (drop a text)) e ∙ take_more (drop a text) (at - a) d within
     ∙ ap (λ (x : ℕ). slice_range text a at ++ x ∷ []) (get_or-drop a text (at - a) d ∙ ap (λ (n : ℕ). get_or text n d) f)
 
+-- the items of a list from place a up to place b, which isn't past its end, are b - a
 pub length-slice_range : {X : Type 0} (xs : List X) (a b : ℕ) → b ≤ length xs → length (slice_range xs a b) ≡ b - a
 length-slice_range xs a b h = length-take (b - a) (drop a xs) ∙ omega (arith, length-drop a xs)
 

@@ -35,6 +35,7 @@ pub record Both (a b : Bool) : Type 0 where
   pub left : a ≡ true
   pub right : b ≡ true
 
+-- where two tests pass together, both pass
 pub both : (a b : Bool) → (a && b) ≡ true → Both a b
 both true b h = record { left = refl; right = h }
 both false b h = cc
@@ -63,6 +64,7 @@ before_comment-none (b ∷ bytes) h =
     (λ _ k. ap (λ (x : List ℕ). b ∷ x) (before_comment-none bytes parts.right))
     parts.left
 
+-- where all items of two lists pass a test, all of both together do
 pub list_all-append : (test : ℕ → Bool) (xs ys : List ℕ) → list_all test xs ≡ true → list_all test ys ≡ true → list_all test (xs ++ ys) ≡ true
 list_all-append test [] ys h k = k
 list_all-append test (x ∷ xs) ys h k =

@@ -1,4 +1,4 @@
--- Texts whose last line does not go on behind their end, and lines numbered higher.
+-- Texts whose last line does not go on past their end, and lines numbered higher.
 use Rattle.std.specs.Prelude.{◌≡◌, ℕ, ◌+◌, List, [], ◌∷◌, map, Option, None}
 use Rattle.tsc_text.specs.TextLine.{TextLine}
 use Rattle.tsc_text.specs.Lines.{OpenLine, line_left, physical_lines}
@@ -8,7 +8,7 @@ abbrev pub open_after : Option OpenLine → ℕ → List (List ℕ) → Option O
 open_after open_line number [] = open_line
 open_after open_line number (p ∷ ps) = open_after (line_left open_line number p) (number + 1) ps
 
--- no line of the text goes on behind its end
+-- no line of the text goes on past its end
 abbrev pub HasNoOpenLine : List ℕ → Type 0
 HasNoOpenLine text = open_after None 1 (physical_lines text) ≡ None
 

@@ -8,7 +8,7 @@ use Rattle.tsc_text.specs.Row.{KeptLine, Mark, kept_line}
 abbrev pub first_jump : Jump
 first_jump = record { line = 0; number = 1 }
 
--- the number of a line behind a jump, where each line is numbered one more than the line before it
+-- the number of a line after a jump, where each line is numbered one more than the line before it
 abbrev pub number_behind : Jump → ℕ → ℕ
 number_behind jump line = jump.number + (line - jump.line)
 

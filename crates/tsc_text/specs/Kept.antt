@@ -3,7 +3,7 @@ use Rattle.std.specs.Prelude.{◌≡◌, ℕ, zero, suc, ◌+◌, ◌-◌, ◌^�
 use Rattle.tsc_text.specs.declared.places.Place.{Place}
 use Rattle.tsc_text.specs.Row.{KeptLine, Mark, PlacedLine}
 
--- the place of a word of one byte that stands one byte behind another word
+-- the place of a word of one byte that stands one byte after another word
 abbrev pub behind : Place → Place
 behind place = record { start = place.past + 1; past = place.past + 2 }
 
@@ -11,7 +11,7 @@ behind place = record { start = place.past + 1; past = place.past + 2 }
 abbrev pub last_of : List Place → ℕ → Place
 last_of kept past = slice_index_or kept (past - 1) (record { start = 0; past = 0 })
 
--- the word behind the last of the first `past` places, if there is one more
+-- the word after the last of the first `past` places, if there is one more
 abbrev pub byte_of : List Place → ℕ → Bool → List Place
 byte_of kept past has_byte = cond has_byte (behind (last_of kept past) ∷ []) []
 
@@ -52,7 +52,7 @@ abbrev pub AreKept : ℕ → List KeptLine → ℕ → Type 0
 AreKept from [] count = from ≤ count
 AreKept from (line ∷ lines) count = (from < line.mark.past) × AreKept line.mark.past lines count
 
--- what the places and lines keep to; one word more stands only behind a place of the line that has not ended
+-- what the places and lines keep to; one word more stands only after a place of the line that has not ended
 pub record IsTable (kept : List Place) (has_byte : Bool) (lines : List KeptLine) : Type 0 where
   pub filled : AreKept 0 lines (length kept)
   pub open_line : has_byte ≡ true → last_kept 0 lines < length kept

@@ -1,7 +1,7 @@
 -- A line by the places of its words, and a line as it is kept: its number and how it ends.
 use Rattle.std.specs.Prelude.{ℕ, Bool, false, List, slice_index_or}
 
--- how a line ends: whether it is a plan line, whether it has one word more than kept places (one byte, one byte behind the last of them),
+-- how a line ends: whether it is a plan line, whether it has one word more than kept places (one byte, one byte after the last of them),
 -- and how many places it and all lines before it keep
 pub record Mark : Type 0 where
   pub is_plan : Bool

@@ -22,11 +22,11 @@ word_ended s past = record s { table = record s.table { places = with_place s.ta
 abbrev pub row_ended : Scan → Bool → Scan
 row_ended s is_plan = record s { table = with_line s.table s.first is_plan }
 
--- the next physical line begins behind the LF at `at`, and with it a line
+-- the next physical line begins after the LF at `at`, and with it a line
 abbrev pub next_line : Scan → ℕ → Scan
 next_line s at = record s { number = s.number + 1; first = s.number + 1; start = at + 1; mode = Fresh }
 
--- the next physical line begins behind the LF at `at`, and is joined to the open line
+-- the next physical line begins after the LF at `at`, and is joined to the open line
 abbrev pub next_joined : Scan → ℕ → Scan
 next_joined s at = record s { number = s.number + 1; start = at + 1; mode = Words }
 
@@ -57,13 +57,13 @@ in_words s at b =
 abbrev pub in_plan : Scan → ℕ → ℕ → Scan
 in_plan s at b = cond (is_blank b) (record (word_ended s at) { start = at + 1 }) s
 
--- the byte `b` at `at`, behind a `\`
+-- the byte `b` at `at`, after a `\`
 abbrev pub behind_slash : Scan → ℕ → ℕ → Scan
 behind_slash s at b =
     cond (b == 35) (record (word_ended s (at - 1)) { mode = CommentJoined })
     (cond (b == 13) (record s { mode = SlashReturn }) (in_words s at b))
 
--- the byte `b` at `at`, behind a `\` and a CR
+-- the byte `b` at `at`, after a `\` and a CR
 abbrev pub behind_return : Scan → ℕ → ℕ → Scan
 behind_return s at b = in_words (record (word_ended s (at - 1)) { start = at }) at b
 

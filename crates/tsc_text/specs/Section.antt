@@ -16,7 +16,7 @@ is_end_word Kiss word = bytes_eq word (codes ".e") || bytes_eq word (codes ".end
 abbrev pub is_end_line : End → TextLine → Bool
 is_end_line end line = not line.is_plan && is_end_word end (the_word line 0)
 
--- the place of the first line from `from` on that ends a section, or behind the last line
+-- the place of the first line from `from` on that ends a section, or after the last line
 abbrev pub end_of : List TextLine → ℕ → End → ℕ
 end_of lines from end = from + position_or_len (is_end_line end) (drop from lines)
 

@@ -22,7 +22,7 @@ abbrev pub with_row : List PlacedLine → ℕ → ℕ → ℕ → Bool → List 
 with_row rows from past number is_plan =
     cond (nat_lt from past) (rows ++ record { number = number; is_plan = is_plan; past = past } ∷ []) rows
 
--- the words behind those of the last line are a line, if there are any
+-- the words after those of the last line are a line, if there are any
 abbrev pub with_line : Table → ℕ → Bool → Table
 with_line table number is_plan =
     record table { rows = with_row table.rows (last_past 0 table.rows) (length table.places) number is_plan }

@@ -35,7 +35,7 @@ abbrev pub plan_mark : Bool → List ℕ
 plan_mark true = codes "#tsc "
 plan_mark false = []
 
--- a blank behind a `\` at the end, which would join the next line
+-- a blank after a `\` at the end, which would join the next line
 abbrev pub kept_apart : List ℕ → List ℕ
 kept_apart bytes = cond (ends_in 92 bytes) (bytes ++ 32 ∷ []) bytes
 

@@ -18,7 +18,7 @@ pub struct Jump {
 /// What stands in place of a jump before the first: the first line, with the number 1.
 const FIRST: Jump = Jump { line: 0, number: 1 };
 
-/// The number of a line behind a jump, where each line is numbered one more than the line before it.
+/// The number of a line after a jump, where each line is numbered one more than the line before it.
 pub fn number_behind(jump: Jump, line: usize) -> usize
     requires behind { jump.line ≤ line }
     requires few { line ≤ 2 ^ 32 }
@@ -49,7 +49,7 @@ pub fn jump_at(jumps: &[Jump], line: usize) -> Jump
     jump_before(jumps, count)
 }
 
-/// Adds a jump at a line behind those of all jumps, unless it has this number without one.
+/// Adds a jump at a line after those of all jumps, unless it has this number without one.
 ///
 /// # Errors
 ///

@@ -7,7 +7,7 @@ use crate::place_list::WordPlaces;
 use crate::places::{Place, byte_behind};
 use std::alloc::AllocError;
 
-/// True only where a place behind the first `from` is kept, and the word is one byte that stands one byte behind the last; what rests
+/// True only where a place after the first `from` is kept, and the word is one byte that stands one byte after the last; what rests
 /// on false is memory alone.
 pub fn is_byte_behind(kept: &WordPlaces, from: usize, place: Place) -> bool
     requires rises { place.start < place.past }
@@ -21,7 +21,7 @@ pub fn is_byte_behind(kept: &WordPlaces, from: usize, place: Place) -> bool
     place.start == kept.get(kept.len() - 1).past + 1
 }
 
-/// Keeps the place of the word behind the last, if there is one more.
+/// Keeps the place of the word after the last, if there is one more.
 ///
 /// # Errors
 ///

@@ -5,7 +5,7 @@ ghost use Rattle.tsc_text.specs.Joined.{HasNoOpenLine, moved};
 ghost use Rattle.tsc_text.specs.Lines.{lines_from, lines_of, physical_lines};
 ghost use Rattle.tsc_text.specs.Written.{WrittenLine, can_be_written, numbered, text_of, written};
 
-/// Lines that are written, one a physical line, are read again as those lines, numbered from 1 on.
+/// Lines that are written, one per physical line, are read again as those lines, numbered from 1 on.
 pub fn written_lines_are_read()
     ensures read { (lines : List WrittenLine)
         → list_all can_be_written lines ≡ true
@@ -23,7 +23,7 @@ pub fn lines_can_be_written()
 {}
 
 /// The lines of two texts that are parted by LF are those of the first, and those of the second numbered higher, where
-/// no line of the first goes on behind its end.
+/// no line of the first goes on past its end.
 pub fn texts_in_a_row()
     ensures lines { (first : List ℕ) (second : List ℕ)
         → HasNoOpenLine first

@@ -1,4 +1,4 @@
-//! The lines of a text, four bytes a line, and eight more where the numbers of lines jump.
+//! The lines of a text, four bytes per line, and eight more where the numbers of lines jump.
 ghost use Rattle.std.specs.Prelude.{◌≡◌, ◌^◌, ◌<◌, ◌≤◌, [], ◌∷◌, ◌++◌, length, IfOk, OnOk, OnErr};
 ghost use Rattle.tsc_text.specs.Kept.{kept_from};
 ghost use Rattle.tsc_text.specs.Row.{kept_line, the_kept};
@@ -68,7 +68,7 @@ impl KeptLines {
         self.marks.get(line).is_plan()
     }
 
-    /// Whether the line has one word more than kept places: one byte, one byte behind the last of them.
+    /// Whether the line has one word more than kept places: one byte, one byte after the last of them.
     pub fn has_byte(&self, line: usize) -> bool
         requires { line < length self.now }
         ensures byte { result ≡ (the_kept self.now line).mark.has_byte }
@@ -84,7 +84,7 @@ impl KeptLines {
         self.marks.get(line).past() as usize
     }
 
-    /// How many places all lines before the line keep, or all lines where it is the one behind the last.
+    /// How many places all lines before the line keep, or all lines where it is the one after the last.
     pub fn from(&self, line: usize) -> usize
         requires { line ≤ length self.now }
         ensures from { result ≡ kept_from 0 self.now line }

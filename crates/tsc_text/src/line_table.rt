@@ -13,7 +13,7 @@ use std::marker::Model;
 
 /// The lines of a text and their words, and the words of a line that has not ended.
 ///
-/// A line's last word is not kept where it is one byte that stands one byte behind the word before it: a bit of the line says so.
+/// A line's last word is not kept where it is one byte that stands one byte after the word before it: a bit of the line says so.
 #[derive(Drop)]
 pub struct LineTable {
     kept: WordPlaces,

@@ -63,7 +63,7 @@ impl<'a> Lines<'a> {
         self.key
     }
 
-    /// How many lines there are.
+    /// How many lines there are. All together they have fewer than 2^32 words.
     pub fn len(&self) -> usize
         ensures count { result ≡ length self.now }
         ensures words { word_count self.now < 2 ^ 32 }
@@ -121,7 +121,7 @@ impl<'a> Lines<'a> {
         }
     }
 
-    /// The place of the first line from `from` on that ends a section, or behind the last line.
+    /// The place of the first line from `from` on that ends a section, or after the last line.
     fn end_from(&self, from: usize, end: End) -> usize
         requires { from ≤ length self.now }
         ensures end { result ≡ end_of self.now from end }

@@ -24,11 +24,11 @@ pub enum Mode {
     SlashReturn,
     /// Bytes with a `#`.
     Comment,
-    /// Bytes with a `#` behind a `\`.
+    /// Bytes with a `#` after a `\`.
     CommentJoined,
 }
 
-/// The mode behind a `#` at the front: `next` where the byte is the next of `#tsc `.
+/// The mode after a `#` at the front: `next` where the byte is the next of `#tsc `.
 pub fn matched(is_next: bool, next: Mode) -> Mode
     ensures mode { result ≡ (if is_next then next else Mode.Comment) }
 {

@@ -10,11 +10,11 @@ use std::marker::Model;
 pub struct Place {
     /// The place of its first byte.
     pub start: u32,
-    /// The place behind its last byte.
+    /// The place after its last byte.
     pub past: u32,
 }
 
-/// The place of a word of one byte that stands one byte behind another word.
+/// The place of a word of one byte that stands one byte after another word.
 pub fn byte_behind(place: Place) -> Place
     requires low { place.past ≤ 2 ^ 26 }
     ensures behind { result ≡ behind place }
@@ -25,7 +25,7 @@ pub fn byte_behind(place: Place) -> Place
     }
 }
 
-/// How a line of a text ends. Its kept places are those behind the ones of the line before, up to the one before `past`.
+/// How a line of a text ends. Its kept places are those after the ones of the line before, up to the one before `past`.
 ///
 /// It takes 4 bytes: four times `past`, two more where it has one word more, and one more where it is a plan line.
 #[derive(Drop)]
@@ -60,7 +60,7 @@ impl LineMark {
         self.code % 2 == 1
     }
 
-    /// Whether it has one word more than kept places: one byte, one byte behind the last of them.
+    /// Whether it has one word more than kept places: one byte, one byte after the last of them.
     pub fn has_byte(&self) -> bool
         ensures byte { result ≡ self.now.has_byte }
     {

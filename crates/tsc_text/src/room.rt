@@ -7,9 +7,9 @@ use crate::byte::is_blank_byte;
 /// What a plan line begins with.
 const PLAN_MARK: [u8; 5] = *b"#tsc ";
 
-/// For how many words room is taken: for each byte of a word that stands at the front or behind a blank, comments left out.
+/// For how many words room is taken: for each byte of a word that stands at the front or after a blank, comments left out.
 ///
-/// No text has more words: what stands behind a `#` has some in a plan line alone, and a `\` at the end of a line joins none.
+/// No text has more words: what stands after a `#` has some in a plan line alone, and a `\` at the end of a line joins none.
 pub fn most_words(text: &[u8]) -> usize
     ensures within { result ≤ length text.now }
 {

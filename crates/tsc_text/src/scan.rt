@@ -61,7 +61,7 @@ impl Scan {
         self.table.end_line(self.first, is_plan)
     }
 
-    /// Begins the next physical line behind the LF at `at`, and with it a line.
+    /// Begins the next physical line after the LF at `at`, and with it a line.
     fn begin_line(&mut self, at: u32)
         requires room { at + 1 < 2 ^ 32 }
         requires count { self.old.number + 1 < 2 ^ 32 }
@@ -73,7 +73,7 @@ impl Scan {
         self.mode = Mode::Fresh;
     }
 
-    /// Begins the next physical line behind the LF at `at`, and joins it to the open line.
+    /// Begins the next physical line after the LF at `at`, and joins it to the open line.
     fn join_line(&mut self, at: u32)
         requires room { at + 1 < 2 ^ 32 }
         requires count { self.old.number + 1 < 2 ^ 32 }
@@ -153,7 +153,7 @@ impl Scan {
         Ok(())
     }
 
-    /// The byte at `at`, behind a `\`.
+    /// The byte at `at`, after a `\`.
     fn behind_slash(&mut self, at: u32, byte: u8) -> Result<(), AllocError>
         requires room { at < 2 ^ 26 }
         requires few { length self.old.table.places < 2 ^ 26 }
@@ -171,7 +171,7 @@ impl Scan {
         self.in_words(at, byte)
     }
 
-    /// The byte at `at`, behind a `\` and a CR.
+    /// The byte at `at`, after a `\` and a CR.
     fn behind_return(&mut self, at: u32, byte: u8) -> Result<(), AllocError>
         requires room { at < 2 ^ 26 }
         requires few { length self.old.table.places + 1 < 2 ^ 26 }

@@ -14,8 +14,8 @@ pub enum End {
 pub struct Section {
     /// The place of its first line.
     pub first: usize,
-    /// The place behind its last line.
+    /// The place after its last line.
     pub past: usize,
-    /// The place behind the line that ends it, or behind the last line of the text.
+    /// The place after the line that ends it, or after the last line of the text.
     pub next: usize,
 }

@@ -96,7 +96,7 @@ module _ (sources : SourceNames) (p : PartsOf) (G : GateNetwork) (lines : List L
             ap (λ (x : PartsOf). x.named.outputs) s_is
             ∙ ap₂ (λ (old new : List (List ℕ)). old ++ new) none (texts_stay p.names r.names keeps_all (with_rails shown rails) shown_rails)
 
-        -- the parts that were shown are those with the checker but for what is shown
+        -- the parts that were shown are those with the checker, except for what is shown
         inputs_are : s.named.inputs ≡ whole.named.inputs
         inputs_are = ap (λ (x : PartsOf). x.named.inputs) s_is ∙ ap (λ (x : PartsOf). x.named.inputs) whole_is
 

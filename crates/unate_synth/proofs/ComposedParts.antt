@@ -54,7 +54,7 @@ checker_extends q word made rails =
       latches = a.latches;
     }
 
--- a driven text stands in a part at the front, or at a place behind it
+-- a driven text stands in a part at the front, or at a place after it
 pub front_or_behind : (front rest : List (List ℕ)) (t : List ℕ) → has_text (front ++ rest) t ≡ true → Contains front t ⊎ (length front ≤ place_of_text (front ++ rest) t)
 front_or_behind front rest t e = elim (cases_lt (place_of_text (front ++ rest) t) (length front)) [
   | inl low ↦ inl (subst (Contains front) (sym (get_or_append_left front rest [] (place_of_text (front ++ rest) t) low) ∙ text_at_place (front ++ rest) t e) (Contains-get_or front (place_of_text (front ++ rest) t) [] low))

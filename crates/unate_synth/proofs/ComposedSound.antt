@@ -40,7 +40,7 @@ module _ (sources : SourceNames) (p q : PartsOf) (G : GateNetwork) (lines : List
   pub over_texts : IsOver (length (texts_of q.names (shown ++ hidden))) made
   over_texts = subst (λ (n : ℕ). IsOver n made) (sym (length-map (shown ++ hidden) (text_of q.names))) over.over
 
-  -- what is shown, and behind it the rails
+  -- what is shown, and after it the rails
   pub shown_texts : texts_of p.names (with_rails shown rails) ≡ texts_of p.names shown ++ (text_of p.names rails.first ∷ (text_of p.names rails.second ∷ []))
   shown_texts = map-append (text_of p.names) shown (rail_list rails)
 
@@ -57,7 +57,7 @@ module _ (sources : SourceNames) (p q : PartsOf) (G : GateNetwork) (lines : List
       (texts_once sources p G lines (shown ++ hidden) rails begun named)))
 
   module _ (N : Named) (inputs : N.inputs ≡ with_all.named.inputs) (latches : N.latches ≡ with_all.named.latches) (nodes : N.nodes ≡ with_all.named.nodes) (once : IsNumbering (drivers p.named)) (numbering : IsNumbering with_all.names) where
-    -- the nodes of the checker stand behind the word's
+    -- the nodes of the checker stand after the word's
     pub nodes_split : N.nodes ≡ q.named.nodes ++ (checker_came q (texts_of q.names (shown ++ hidden)) made (Some rails)).added
     nodes_split = nodes ∙ ap (λ (M : Named). M.nodes) (checker_came q (texts_of q.names (shown ++ hidden)) made (Some rails)).named
 

@@ -1,4 +1,4 @@
--- The circuit of a composed netlist: the word's gates stand in it, and behind them the checker's.
+-- The circuit of a composed netlist: the word's gates stand in it, and after them the checker's.
 use Rattle.std.proofs.Common.{◌≡◌, ℕ, ◌+◌, ◌^◌, ◌<◌, ◌≤◌, List, ◌++◌, map, length, Some, sym, ◌∙◌, ap, subst, arith}
 use Rattle.std.proofs.lemmas.List.{length-map}
 use Rattle.fault_secure.specs.CodePlan.{CodePlan, monitored}
@@ -81,7 +81,7 @@ module _ (sources : SourceNames) (p q : PartsOf) (G : GateNetwork) (lines : List
         second
         ∙ ap (place_of_text (drivers N)) (sym (rail2_text q (texts_of q.names (shown ++ hidden)) made over.plan over.is_checker rails over.well_made ∙ second_same sources p G lines (shown ++ hidden) rails begun named q h))
 
-    -- the checker stands, and nothing is behind it
+    -- the checker stands, and nothing is after it
     checker_is : StandsFrom (circuit_of N) P (length q.named.nodes) made × EndsInGates (circuit_of N) P (length q.named.nodes) made
     checker_is =
         let word = texts_of q.names (shown ++ hidden) in

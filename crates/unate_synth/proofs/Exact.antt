@@ -205,12 +205,15 @@ unate_plan S N P well plan version code outputs none =
     }
 
 module _ (N : Circuit) (P : CodePlan) (signals : List Signal) (c : IsComposed N P signals) where
+  -- in a composed netlist equal gates are one gate
   pub shares : SharesEqualGates N P
   shares p q low within one other same = c.alone q (function_before N P c.top signals q c.stand other.works) other.hidden p low same
 
+  -- in a composed netlist the rails have the values of the stated checker's rails
   pub stated_rails : HasStatedRails N P
   stated_rails = record { first = λ v settled. rail1_value N P c.rails v settled; second = λ v settled. rail2_value N P c.rails v settled }
 
+  -- in a composed netlist nothing else stands than the function and the stated checker
   pub nothing_else : HasNothingElse N P
   nothing_else = record { top = c.top; needed = c.needed; checker = c.ends }
 

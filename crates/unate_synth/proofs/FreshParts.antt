@@ -60,7 +60,7 @@ module _ (S : NetlistOf) (checked : IsBuilt S) where
       let rest = fresh_names_behind (free_number p.names) count 1 (with_fresh p) refl in
       ap (λ (f : Option FreshNames). (fresh_of (fresh_parts S (suc count)) f).next) rest.1 ∙ omega arith
 
-  -- nothing but inputs is in them
+  -- nothing except inputs is in them
   pub fresh_parts_named : (count : ℕ) → (fresh_parts S count).named ≡ (begun_to S (nets S.circuit)).named
   fresh_parts_named count = fresh_named count (begun_to S (nets S.circuit))
 

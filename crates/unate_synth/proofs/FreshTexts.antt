@@ -22,7 +22,7 @@ glyph n = digit_glyph false (n % 10)
 spell_last : (k n : ℕ) (acc : List ℕ) → n < 10 → spell (suc k) n acc ≡ glyph n ∷ acc
 spell_last k n acc h = ap (λ (t : Bool). cond t (glyph n ∷ acc) (spell k (n / 10) (glyph n ∷ acc))) (eq-eqb (n / 10) 0 (omega arith))
 
--- any other one has its last digit behind those of its tenth
+-- any other one has its last digit after those of its tenth
 spell_next : (k n : ℕ) (acc : List ℕ) → 10 ≤ n → spell (suc k) n acc ≡ spell k (n / 10) (glyph n ∷ acc)
 spell_next k n acc h = ap (λ (t : Bool). cond t (glyph n ∷ acc) (spell k (n / 10) (glyph n ∷ acc))) (ne_eqb (n / 10) 0 (λ e. omega arith))
 
@@ -53,7 +53,7 @@ glyph_same a b e = omega (arith, e, glyph_is (a % 10) (omega arith), glyph_is (b
 head_same : (x y : ℕ) (xs ys : List ℕ) → x ∷ xs ≡ y ∷ ys → x ≡ y
 head_same x y xs ys e = ap (λ (l : List ℕ). slice_index l 0) e
 
--- and what stands behind them
+-- and what stands after them
 tail_same : (x y : ℕ) (xs ys : List ℕ) → x ∷ xs ≡ y ∷ ys → xs ≡ ys
 tail_same x y xs ys e = ap (drop 1) e
 

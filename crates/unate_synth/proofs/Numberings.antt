@@ -9,7 +9,7 @@ use Rattle.gate_net.proofs.Texts.{numbering_append}
 pub contains_take : {X : Type 0} (n : ℕ) (xs : List X) (x : X) → Contains (take n xs) x → Contains xs x
 contains_take n xs x c = subst (λ (ys : List _). Contains ys x) (take-append-drop n xs) (Contains-append_left (take n xs) (drop n xs) x c)
 
--- and so does what stands behind them
+-- and so does what stands after them
 pub contains_drop : {X : Type 0} (n : ℕ) (xs : List X) (x : X) → Contains (drop n xs) x → Contains xs x
 contains_drop n xs x c = subst (λ (ys : List _). Contains ys x) (take-append-drop n xs) (Contains-append_right (take n xs) (drop n xs) x c)
 
@@ -53,6 +53,6 @@ numbering_ends xs ys zs h =
 pub numbering_take : (n : ℕ) (xs : List (List ℕ)) → IsNumbering xs → IsNumbering (take n xs)
 numbering_take n xs h = numbering_left (take n xs) (drop n xs) (subst IsNumbering (sym (take-append-drop n xs)) h)
 
--- and those behind them
+-- and those after them
 pub numbering_drop : (n : ℕ) (xs : List (List ℕ)) → IsNumbering xs → IsNumbering (drop n xs)
 numbering_drop n xs h = numbering_right (take n xs) (drop n xs) (subst IsNumbering (sym (take-append-drop n xs)) h)

@@ -10,6 +10,7 @@ use Rattle.code_checkers.specs.declared.word_sizes.WordSizes.{WordSizes}
 use Rattle.code_checkers.specs.SizedWords.{HasPlan}
 use Rattle.code_checkers.proofs.SizedWords.{plan_with, has_plan}
 
+-- a plan without groups, and with as many checks as an unordered code has, has the code's shape
 pub shape_of : (code : Code) (P : CodePlan) → P.groups ≡ [] → HasWidth code P.outputs (length P.checks) → HasShape code P
 shape_of Parity P groups width = absurd width
 shape_of Berger P groups width = (groups, width)

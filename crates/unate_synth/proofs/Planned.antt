@@ -11,6 +11,7 @@ use Rattle.code_checkers.proofs.CanonicalGates.{ends_in_checker}
 use Rattle.unate_synth.specs.Alone.{AreAlone}
 use Rattle.unate_synth.specs.Composed.{StandsOver, IsComposed}
 
+-- gates that stand over a plan's monitored nets and rails, with the plan's checker, compose the netlist of the plan
 pub plan_is_composed : (N : Circuit) (signals : List Signal) (made : GateList) (word : List ℕ) (first second : ℕ) (P : CodePlan) → StandsOver N signals made word first second
     → monitored N P ≡ word → P.rail1 ≡ first → P.rail2 ≡ second → IsCheckerOf P made → IsComposed N P signals
 plan_is_composed N signals made word first second P stands watched one two is =

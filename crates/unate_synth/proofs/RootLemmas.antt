@@ -89,7 +89,7 @@ stretch_apart names first count number numbering low apart = by (has_text (take 
         let same : first + place ≡ number = numbering.distinct (first + place) number (omega (arith, taken, left)) low at in
         absurd (apart (omega (arith, same), omega (arith, same, taken)))
 
--- a name that is no source's is undriven, where nothing is driven but the sources
+-- a name that is no source's is undriven, where nothing is driven except the sources
 pub name_undriven : (sources : SourceNames) (p : PartsOf) (G : GateNetwork) → HasSourcesOnly sources p G → (number : ℕ) → number < length p.names → (IsSourceNumber sources number → ⊥)
     → has_text (drivers p.named) (text_at p.names number) ≡ false
 name_undriven sources p G begun number low apart =
@@ -130,7 +130,7 @@ module _ (sources : SourceNames) (p : PartsOf) (G : GateNetwork) (roots : List R
       ap (has_text (drivers p.named)) (root_text place there)
       ∙ name_undriven sources p G begun (root_number roots place) (root_within place there) (root_apart place there)))
 
--- names that come behind those that are there
+-- names that come after those that are there
 pub extends_keeps : (p q : PartsOf) → Extends p q → Keeps p.names q.names
 extends_keeps p q e = subst (Keeps p.names) (sym e.names) (record {
   longer = omega (arith, length-append p.names e.more);

@@ -75,7 +75,7 @@ module _ (C N : Circuit) (P : CodePlan) (hi : ℕ) (G : GateNetwork) (lines : Li
   joined : (x s : ℕ → Bool) → values x s (take P.outputs signals) ++ values x s (drop P.outputs signals) ≡ line_values G x s lines
   joined x s = sym (map-append _ (take P.outputs signals) (drop P.outputs signals)) ∙ ap (values x s) (take-append-drop P.outputs signals) ∙ values_are x s
 
-  -- behind the outputs the lines have the stated checks of the outputs
+  -- after the outputs the lines have the stated checks of the outputs
   checks_are : (x s : ℕ → Bool) → drop P.outputs (line_values G x s lines) ≡ check_bits P.code (length P.checks) (take P.outputs (line_values G x s lines))
   checks_are x s =
       let many : length lines - length C.outputs ≡ length P.checks = omega (arith, total, sized) in

@@ -106,7 +106,7 @@ module _ (C N : Circuit) (P : CodePlan) (hi : ℕ) (source : Acyclic C) (acyclic
       ∙ map-append (bit v) (take P.outputs N.outputs) P.checks
       ∙ ap₂ (λ a b. a ++ b) (all_values N hi x s v f.outputs (take P.outputs N.outputs) settles f.outputs_stand) (all_values N hi x s v f.checks P.checks settles f.checks_stand)
 
-  -- without latches nothing is left of a word behind the checks
+  -- without latches nothing is left of a word after the checks
   weighed : (v : List Bool) → ones (next_of P (word N P v)) ≡ P.weight
   weighed v = ap ones rest ∙ sym no_weight
     where

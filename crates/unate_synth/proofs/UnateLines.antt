@@ -87,7 +87,7 @@ module _ (C : Circuit) (code : Code) (first grown pushed : GateNetwork) (outputs
       ∙ front (length C.outputs) (line_values first x s outputs) (line_values grown x s made.checks) sized
       ∙ values x s v (any_state C x s t v none settles)
 
-  -- behind the outputs stand their checks
+  -- after the outputs stand their checks
   stated : (x s : ℕ → Bool) → drop (length C.outputs) (line_values pushed x s lines)
       ≡ check_bits code (length lines - length C.outputs) (take (length C.outputs) (line_values pushed x s lines))
   stated x s =

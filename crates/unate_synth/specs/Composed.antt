@@ -26,11 +26,11 @@ use Rattle.unate_synth.specs.Alone.{AreAlone}
 use Rattle.unate_synth.specs.UnateNetlist.{IsNarrow}
 use Rattle.unate_synth.specs.declared.roots.SourceNames.{SourceNames}
 
--- a word's names, and behind them those of the rails
+-- a word's names, and after them those of the rails
 abbrev pub with_rails : List Name → RailNames → List Name
 with_rails word rails = word ++ (rails.first ∷ (rails.second ∷ []))
 
--- the names of a word and of its rails, over parts that hold only sources: no name stands twice, none is what a latch gives, a
+-- the names of a word and of its rails, over parts that hold only sources. No name stands twice, none is what a latch gives, a
 -- rail is no input, and where a place of the word is an input, its line means that input
 pub record IsNamedWord (sources : SourceNames) (p : PartsOf) (G : GateNetwork) (lines : List Line) (word : List Name) (rails : RailNames) : Type 0 where
   pub sized : length lines ≡ length word
@@ -52,7 +52,7 @@ LatchesRead p word = All (λ l. Contains word l.reads) p.named.latches
 abbrev pub IsFreshName : PartsOf → List ℕ → Type 0
 IsFreshName p text = (count : ℕ) × (count < (fresh_of p p.fresh).next + 2 ^ 32) × (text ≡ fresh_text (fresh_of p p.fresh).number count)
 
--- the netlist has the model and the sources of the parts, in order; its outputs are those that are shown, and the rails; each
+-- the netlist has the model and the sources of the parts, in order; its outputs are those that are shown, and the rails. Each
 -- name of the word is a source's or a node drives it; and any other node drives a rail or a fresh name
 pub record HasPartsOf (p : PartsOf) (shown hidden : List (List ℕ)) (first second : List ℕ) (N : NetlistOf) : Type 0 where
   pub model : N.model ≡ p.named.model
@@ -71,7 +71,7 @@ abbrev pub SomeDepends : Circuit → ℕ → List ℕ → Type 0
 SomeDepends N q list = (net : ℕ) × Contains list net × Depends N q net
 
 -- before place `top` the nets of the word realise the signals, each node is one that some of them depends on, and equal gates are
--- one gate; from there on the gates of a checker stand, in order and no others, and the rails are theirs
+-- one gate. From there on the gates of a checker stand, in order and no others, and the rails are theirs
 pub record StandsOver (N : Circuit) (signals : List Signal) (made : GateList) (word : List ℕ) (first second : ℕ) : Type 0 where
   pub top : ℕ
   pub stand : AllRealise N top signals word
@@ -87,7 +87,7 @@ pub record IsComposedOf (p : PartsOf) (G : GateNetwork) (lines : List Line) (mad
   pub few : length N.circuit.nodes ≤ length G.gates + length lines + length made.gates
 
 -- the same of a plan's word, with the plan's checker: before place `top` the monitored nets realise the signals, each node is of the
--- function, and equal gates are one gate; the rails realise those of the stated checker, and nothing else stands behind `top`
+-- function, and equal gates are one gate. The rails realise those of the stated checker, and nothing else stands after `top`
 pub record IsComposed (N : Circuit) (P : CodePlan) (signals : List Signal) : Type 0 where
   pub top : ℕ
   pub stand : AllRealise N top signals (monitored N P)

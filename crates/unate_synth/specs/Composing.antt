@@ -13,7 +13,7 @@ use Rattle.unate_synth.specs.declared.roots.SourceNames.{SourceNames}
 use Rattle.unate_synth.specs.Roots.{AreRoots, AreRooted}
 
 -- gates came whose roots are those of the word, with its lines: each node drives a root's name or a fresh one, is needed by some
--- root and reads what stands before it, and no name is driven twice; at most a node for each gate came, and one for each line
+-- root and reads what stands before it, and no name is driven twice. At most one node for each gate came, and one for each line
 pub record AddsWord (sources : SourceNames) (p q : PartsOf) (G : GateNetwork) (lines : List Line) (word : List Name) : Type 0 where
   pub roots : List Root
   pub are : AreRoots p.names sources G roots

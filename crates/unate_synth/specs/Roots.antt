@@ -19,7 +19,7 @@ root_number roots place = (slice_index_or roots place (record { name = record { 
 abbrev pub IsSourceNumber : SourceNames → ℕ → Type 0
 IsSourceNumber sources number = (number < sources.inputs) ⊎ ((sources.first ≤ number) × (number < sources.first + sources.latches))
 
--- nothing is driven but the sources, as many as the gates have inputs and state bits; the names that latches give stand behind
+-- nothing is driven except the sources, as many as the gates have inputs and state bits; the names that latches give stand after
 -- those of the inputs; nothing is shown; and different names have different texts
 pub record HasSourcesOnly (sources : SourceNames) (p : PartsOf) (G : GateNetwork) : Type 0 where
   pub inputs : length p.named.inputs ≡ G.inputs

@@ -1,4 +1,4 @@
--- Lines of gates that compute the outputs of a network, and behind them the checks of a code.
+-- Lines of gates that compute the outputs of a network, and after them the checks of a code.
 use Rattle.std.specs.Prelude.{◌≡◌, ℕ, ◌-◌, Bool, List, ◌++◌, map, take, drop, length, All}
 use Rattle.tsc_bits.specs.Bits.{bits_of}
 use Rattle.fault_secure.specs.Circuit.{Circuit, bit}
@@ -21,13 +21,13 @@ ComputesChecks Parity old new outputs checks = ⊥
 ComputesChecks Berger old new outputs checks = ComputesAll old new (λ x s. bits_of (length checks) (zeros (line_values old x s outputs))) checks
 ComputesChecks MOutOfN old new outputs checks = ComputesAll old new (λ x s. thermo (length outputs) (zeros (line_values old x s outputs))) checks
 
--- the lines are those of the outputs, and behind them those of their checks
+-- the lines are those of the outputs, and after them those of their checks
 pub record AreWordLines (code : Code) (old new : GateNetwork) (outputs word : List Line) : Type 0 where
   pub checks : List Line
   pub joined : word ≡ outputs ++ checks
   pub computes : ComputesChecks code old new outputs checks
 
--- the lines mean signals that negate only inputs: first those that have the values of the outputs of the network C, and behind
+-- the lines mean signals that negate only inputs: first those that have the values of the outputs of the network C, and after
 -- them those that have the values of these outputs' checks, whatever the inputs and the state bits
 pub record AreUnateLines (C : Circuit) (code : Code) (G : GateNetwork) (lines : List Line) : Type 0 where
   pub unordered : IsUnorderedCode code

@@ -66,11 +66,11 @@ fresh_name S count = fresh_text (free_number S.names) count
 abbrev pub first_fresh_names : NetlistOf → ℕ → List (List ℕ)
 first_fresh_names S count = map (fresh_name S) (range_with_len 0 count)
 
--- the names of the rails: the two fresh names behind those of so many checks
+-- the names of the rails: the two fresh names after those of so many checks
 abbrev pub rail_names : NetlistOf → ℕ → List (List ℕ)
 rail_names S checks = fresh_name S checks ∷ (fresh_name S (checks + 1) ∷ [])
 
--- the checks have the first fresh names and the rails the next two; the outputs have their names from the network, and behind
+-- the checks have the first fresh names and the rails the next two; the outputs have their names from the network, and after
 -- them stand the rails
 pub record HasUnateNames (S N : NetlistOf) (P : CodePlan) : Type 0 where
   pub checks : names_of N.names P.checks ≡ first_fresh_names S (length P.checks)

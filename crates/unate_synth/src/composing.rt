@@ -17,7 +17,7 @@ use net_writing::{RailNames, add_checker, add_outputs};
 use std::alloc::{AllocError, Global};
 use tsc_net::{Name, NameList, Parts};
 
-/// Adds to parts that hold only sources: the gates of a word, which is outputs and then checks, behind them a checker, and what is
+/// Adds to parts that hold only sources: the gates of a word, which is outputs and then checks, after them a checker, and what is
 /// shown, the outputs and then the rails. The nets at latch inputs are the last of the checks here.
 ///
 /// # Errors
@@ -78,7 +78,7 @@ fn add_word(
     to_net(alloc, &made.gates, &roots, parts)
 }
 
-/// Adds the outputs that are shown, and behind them the rails.
+/// Adds the outputs that are shown, and after them the rails.
 fn add_shown(parts: &mut Parts, outputs: &[Name], rails: RailNames) -> Result<(), AllocError>
     requires outputs { All (IsName parts.old.names) outputs.now }
     requires rails { AreRailNames parts.old.names (Some rails) }

@@ -20,7 +20,7 @@ use net_writing::{RailNames, begin, output_names};
 use std::alloc::{AllocError, Global};
 use tsc_net::{Netlist, Parts};
 
-/// The netlist of a network: the gates of its outputs and checks, of which there are `count`, and behind them those of a checker.
+/// The netlist of a network: the gates of its outputs and checks, of which there are `count`, and after them those of a checker.
 /// The checks and then the rails have the first fresh names.
 pub fn network_netlist(
     alloc: Global,

@@ -27,7 +27,7 @@ use tsc_net::{Code, Netlist, Plan, PlannedNetlist};
 
 /// A netlist for a network of at most 64 different outputs under a Berger or an m-out-of-n code. The network has a size that follows
 /// where its bound on covers is kept. The outputs have their names, and one that is an input stays that input; the checks, then the rails and then
-/// the inner nets have fresh names. No node reads more than two nets, and nothing stands in it but gates that an output or a check
+/// the inner nets have fresh names. No node reads more than two nets, and nothing stands in it except gates that an output or a check
 /// needs, and the checker; of the inner gates no two are equal. There are at most as many nodes as the bound on covers says.
 ///
 /// # Errors

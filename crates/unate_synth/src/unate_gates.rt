@@ -16,7 +16,7 @@ use std::alloc::{AllocError, Global};
 use tsc_net::{Code, Netlist};
 
 /// The gates of a network and of its checks under a code, with negations only at inputs: a line for each output, in order,
-/// and behind them one for each check. The line of an output that is an input means that input. The network has a size that follows
+/// and after them one for each check. The line of an output that is an input means that input. The network has a size that follows
 /// where its bound on covers is kept.
 ///
 /// # Errors
@@ -47,7 +47,7 @@ pub fn unate_gates(alloc: Global, source: &Netlist, code: Code) -> Result<NetGat
     Ok(made)
 }
 
-/// Adds the checks of outputs, and answers the lines of the outputs and behind them those of the checks.
+/// Adds the checks of outputs, and answers the lines of the outputs and after them those of the checks.
 fn word_lines(
     alloc: Global,
     gates: &mut Gates,

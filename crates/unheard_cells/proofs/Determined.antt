@@ -105,5 +105,6 @@ module _ (N : Circuit) (P : CodePlan) where
   the_same (Some a) None first second = absurd (none_or_some a second first)
   the_same (Some a) (Some b) first second = ap (λ (r : PointReason). Some r) (one_reason a b first second)
 
+-- there is at most one answer: two are the same
 pub one_point_answer : OnePointAnswer
 one_point_answer N P a b first second = the_same N P a b first second

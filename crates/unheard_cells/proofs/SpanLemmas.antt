@@ -59,7 +59,7 @@ module _ (N : Circuit) (list : List ℕ) where
 
 -- ---- lists
 
--- one list more, at the place of the net that it begins with behind the rails
+-- one list more, at the place of the net that it begins with after the rails
 pub near_more : (P : CodePlan) (shown : List ℕ) (near : List (List NetId)) (low : ℕ) (list : List NetId) → length near ≡ low
     → ((k : ℕ) (d : List NetId) → k < low → net_numbers (slice_index_or near k d) ≡ P.rail1 ∷ (P.rail2 ∷ drop k shown)) → net_numbers list ≡ P.rail1 ∷ (P.rail2 ∷ drop low shown)
     → (k : ℕ) (d : List NetId) → k < low + 1 → net_numbers (slice_index_or (near ++ list ∷ []) k d) ≡ P.rail1 ∷ (P.rail2 ∷ drop k shown)

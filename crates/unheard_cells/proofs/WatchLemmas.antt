@@ -1,5 +1,5 @@
 -- The nets that are watched, and their lanes.
-use Rattle.std.proofs.Common.{◌≡◌, ℕ, ◌*◌, ◌/◌, ◌<◌, ◌≤◌, Bool, List, ◌∷◌, length, take, drop, slice_index_or, Option, Some, None, sym, ap, ◌∙◌, subst, All, arith, length-append}
+use Rattle.std.proofs.Common.{◌≡◌, ℕ, ◌*◌, ◌/◌, ◌<◌, ◌≤◌, Bool, List, ◌∷◌, length, take, drop, slice_index_or, Option, Some, None, sym, ap, ◌∙◌, subst, All, arith}
 use Rattle.std.specs.Prelude.{IfSome}
 use Rattle.std.specs.Option.{unwrap_or}
 use Rattle.std.proofs.lemmas.List.{length-map, length-take-le, length-drop, take-map}
@@ -7,7 +7,7 @@ use Rattle.std.proofs.lemmas.List.Elements.{All-cons, All-take, All-drop, All-ap
 use Rattle.fault_secure.specs.Circuit.{Circuit, LatchOf, nets}
 use Rattle.fault_secure.specs.Closed.{IsClosed}
 use Rattle.fault_secure.specs.StuckAt.{StuckAt}
-use Rattle.fault_secure.specs.CodePlan.{CodePlan, next_nets, IsPlanOf, IsWellMade}
+use Rattle.fault_secure.specs.CodePlan.{CodePlan, next_nets, IsPlanOf}
 use Rattle.tsc_net.specs.PlanView.{net_numbers}
 use Rattle.tsc_net.specs.declared.ids.NetId.{NetId}
 use Rattle.tsc_net.proofs.NetNumbers.{numbers_counted}
@@ -43,15 +43,6 @@ watch_below N C P list circuit closed plan is =
 pub watch_room : (N : Circuit) (P : CodePlan) (list : List NetId) (lanes : List ℕ) → net_numbers list ≡ watched_nets N P → length lanes ≡ length (watched_nets N P) * 16
     → length lanes ≡ length list * 16
 watch_room N P list lanes is room = room ∙ ap (λ n. n * 16) (sym (numbers_counted list (watched_nets N P) is))
-
-pub watch_few : (N : Circuit) (P : CodePlan) (list : List NetId) → IsPlanOf N P → IsWellMade P → length N.latches ≤ 64 → net_numbers list ≡ watched_nets N P → length list ≤ 130
-watch_few N P list plan made few is =
-    let counted = numbers_counted list (watched_nets N P) is in
-    let outputs : length (take P.outputs N.outputs) ≡ P.outputs = (let e = plan.outputs in length-take-le P.outputs N.outputs (omega (arith, e))) in
-    let whole = length-append (take P.outputs N.outputs) (next_nets N) in
-    let next : length (next_nets N) ≡ length N.latches = length-map N.latches (λ (l : LatchOf). l.reads) in
-    let most = made.most_outputs in
-    omega (arith, counted, outputs, whole, next, most)
 
 -- ---- the nets of a span
 

@@ -15,7 +15,7 @@ pub record AreSpansOf (N : Circuit) (list : List ℕ) (many : ℕ) (spans : List
   pub sized : length spans ≡ length N.nodes
   pub each : (q : ℕ) (d : Span) → q < length N.nodes → IsSpanOf N list many q (slice_index_or spans q d)
 
--- the span with a place behind all of its own
+-- the span with a place after all of its own
 abbrev pub widened : ℕ → Span → Span
 widened place span = record { low = if span.past == 0 then place else span.low; past = place + 1 }
 

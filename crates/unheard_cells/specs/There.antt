@@ -52,7 +52,7 @@ near_count span = 2 + (span.past - span.low)
 abbrev pub near_nets : Circuit → CodePlan → Span → List ℕ
 near_nets N P span = take (near_count span) (P.rail1 ∷ (P.rail2 ∷ drop span.low (shown_nets N P)))
 
--- lanes of nets, sixteen words each: at a point those behind the rails are in the second list what they are so many places further in the first
+-- lanes of nets, sixteen words each: at a point those after the rails are in the second list what they are so many places further in the first
 abbrev pub AreSameAt : List ℕ → List ℕ → ℕ → ℕ → ℕ → Type 0
 AreSameAt right wrong low many p = (place : ℕ) → 2 ≤ place → place < many → source_bit right (low + place) p ≡ source_bit wrong place p
 

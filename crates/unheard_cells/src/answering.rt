@@ -16,7 +16,7 @@ use tsc_net::{Netlist, Plan};
 
 /// Whether the netlist is heard at each listed state and input, whichever one cell fails: none where it is, else the first reason. Points
 /// come by state, then by the input as a binary number; at a point a false alarm comes before a cell that fails unheard, and the least
-/// such cell is answered. Of a cell its net is held at 0 and at 1, and what that changes is settled again, at 1,024 points at once; a node
+/// such cell is answered. For each cell its net is held at 0 and at 1, and what that changes is settled again, at 1,024 points at once; a node
 /// on which no output and no next bit depends isn't tried.
 ///
 /// # Errors

@@ -19,7 +19,7 @@ pub(crate) fn first_agreeing(lanes: &[u64], many: usize) -> Option<usize>
     first_point(signed(false, differ(one, other)), many)
 }
 
-/// The first of the first `many` points at which a net behind the rails, of `count` nets with the rails, isn't what it is without a
+/// The first of the first `many` points at which a net after the rails, of `count` nets with the rails, isn't what it is without a
 /// fault, and the rails differ. Without a fault the nets stand `low` places further on.
 pub(crate) fn first_unheard(
     right: &[u64],
@@ -40,7 +40,7 @@ pub(crate) fn first_unheard(
     first_point(unheard, many)
 }
 
-/// The points at which a net behind the rails has changed.
+/// The points at which a net after the rails has changed.
 fn changed(right: &[u64], wrong: &[u64], low: usize, count: usize) -> Simd<u64, 16>
     requires some { 2 ≤ count }
     requires right { (low + count) * 16 ≤ length right.now }

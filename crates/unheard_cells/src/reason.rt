@@ -3,7 +3,7 @@
 use tsc_net::NetId;
 
 /// What is wrong at the first point at which something is. A state is its place in the plan's list, 0 without latches; an input is a
-/// number, a bit an input, the first one most significant.
+/// number, one bit per input, the first one most significant.
 #[derive(Clone, Copy, Debug, PartialEq, Eq)]
 pub enum PointReason {
     /// The rails agree without a fault.

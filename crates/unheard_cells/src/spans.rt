@@ -65,7 +65,7 @@ fn add_place(
     Ok(())
 }
 
-/// Widens the spans that have a mark, to a place behind all of theirs.
+/// Widens the spans that have a mark, to a place after all of theirs.
 fn widen_marked(marks: &[bool], place: usize, spans: &mut [Span])
     requires sized { length marks.now ≡ length spans.old }
     requires place { place < 18446744073709551615 }
@@ -79,7 +79,7 @@ fn widen_marked(marks: &[bool], place: usize, spans: &mut [Span])
     }
 }
 
-/// The span with a place behind all of its own.
+/// The span with a place after all of its own.
 fn widen(span: Span, place: usize) -> Span
     requires place { place < 18446744073709551615 }
     ensures widened { result ≡ widened place span }

@@ -64,7 +64,7 @@ pub(crate) fn first_of_cell(
     )
 }
 
-/// The same, where the cell changes nothing that is seen from outside but what stands in a span.
+/// The same, where the cell changes nothing that is seen from outside except what stands in a span.
 fn first_in_span(
     trial: &mut Trial,
     net: &Netlist,

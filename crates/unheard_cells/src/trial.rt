@@ -16,9 +16,9 @@ pub(crate) struct Trial<'a> {
     pub points: Points,
     /// The rails, then the outputs and the nets at the latch inputs.
     pub watch: Nets,
-    /// For each place behind the rails a list: the rails, then these nets from the place on.
+    /// For each place after the rails a list: the rails, then these nets from the place on.
     pub near: Items<Nets>,
-    /// For each node where behind the rails the nets stand that depend on it.
+    /// For each node where after the rails the nets stand that depend on it.
     pub spans: Vec<Span>,
 }
 
@@ -51,7 +51,7 @@ pub(crate) fn put_batch(trial: &mut Trial, net: &Netlist, plan: &Plan, first: us
     put_places(&mut trial.points, plan, first, past);
 }
 
-/// Settles at the points that are put, and writes what the watched nets have there without a fault, sixteen words a net.
+/// Settles at the points that are put, and writes what the watched nets have there without a fault, sixteen words per net.
 pub(crate) fn settle_batch(trial: &mut Trial, net: &Netlist, plan: &Plan, right: &mut [u64])
     requires trial { IsTrialOf net.now.circuit plan.now trial.old }
     requires room { IsRoom net.now.circuit plan.now right.old }

@@ -23,6 +23,7 @@ use Rattle.lane_sim.specs.Places.{point_at}
 
 -- ---- counting
 
+-- with more than 16 inputs and at least one state there are more than 65536 points
 pub many_inputs : (states n : ℕ) → 0 < states → 16 < n → 65536 < states * 2 ^ n
 many_inputs states n some more =
     let far : 17 ≤ n = omega arith in

@@ -68,5 +68,6 @@ module _ (N : Circuit) (P : CodePlan) (tests : Answers) (are : AreTests N P test
       let listed : IsTrue (is_listed N f) = (holds_the_listed N f).0 (k, inside, get_or_default (listed_faults N) k f NoFault inside) in
       exposed_has_test N P f (get_or tests k None) (each f listed) (are.each k inside))
 
+-- a netlist with its plan is self-testing exactly where each of its tests has a point
 pub tests_decide : TestsDecide
 tests_decide N P tests are = (testing N P tests are, tested N P tests are)

@@ -81,7 +81,7 @@ fn find_in_batch(
     try_holding(trial, net, plan, faults, true, first, past, unheard, places);
 }
 
-/// Puts it for the faults of a pass, which hold this bit. Along a chain of gates one fault after another changes nothing behind it then,
+/// Puts it for the faults of a pass, which hold this bit. Along a chain of gates one fault after another changes nothing further on then,
 /// since all hold the same bit there.
 fn try_holding(
     trial: &mut Trial,

@@ -7,7 +7,7 @@ use crate::places::Places;
 use lane_sim::{Point, point_at};
 use std::marker::Model;
 
-/// For each listed fault of a netlist, in order, the first exposing point, if there is one. It holds four bytes a fault.
+/// For each listed fault of a netlist, in order, the first exposing point, if there is one. It holds four bytes per fault.
 #[derive(Debug, Drop)]
 pub struct Tests {
     inputs: usize,

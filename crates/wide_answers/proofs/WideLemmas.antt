@@ -34,6 +34,7 @@ refused_lines text lines given are sound refused =
     let P : List TextLine → Type 0 = λ l. IsRefusedBy (first_of (byte_refusal (bad_line text)) (wide_lines_refusal l)) given in
     subst P are (refused_later (byte_refusal (bad_line text)) (wide_lines_refusal lines) given (ap byte_refusal sound) refused)
 
+-- where nothing refuses the bytes of a text or its lines, a wide audit of the text is not refused
 pub allowed_lines : (text : List ℕ) (lines : List TextLine) → lines ≡ lines_of text → bad_line text ≡ None
     → wide_lines_refusal lines ≡ None → wide_refusal text ≡ None
 allowed_lines text lines are sound allowed =
@@ -47,6 +48,7 @@ module _ (lines : List TextLine) (at : ℕ) (is : at ≡ behind_source Blif line
       let P : ℕ → Type 0 = λ n. IsRefusedBy (first_of (source_refusal Blif lines) (netlist_refusal lines n)) given in
       subst P is (refused_later (source_refusal Blif lines) (netlist_refusal lines at) given none refused)
 
+  -- where nothing refuses the netlist after it either, a wide audit of the lines is not refused
   pub allowed_behind : netlist_refusal lines at ≡ None → wide_lines_refusal lines ≡ None
   allowed_behind allowed =
       let P : ℕ → Type 0 = λ n. first_of (source_refusal Blif lines) (netlist_refusal lines n) ≡ None in

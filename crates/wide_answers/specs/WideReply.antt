@@ -41,7 +41,7 @@ abbrev pub IsWideReplyOf : Ending → ℕ → Circuit → NetlistOf → CodePlan
 IsWideReplyOf Finished rows S net plan answer = IsWideYes rows S net plan answer
 IsWideReplyOf Rejected rows S net plan answer = IsWideNo rows S net plan answer
 
--- the answer to a text, by how the command ends: on the network that it begins with, and the netlist and the plan behind it
+-- the answer to a text, by how the command ends: on the network that it begins with, and the netlist and the plan after it
 abbrev pub IsWideReply : Ending → ℕ → List ℕ → List ℕ → Type 0
 IsWideReply ending rows text answer =
     IsWideReplyOf ending rows (netlist_in text).circuit (second_netlist_in Blif text) (second_plan_in Blif text) answer

@@ -1,4 +1,4 @@
--- What is refused of a text of a network, and behind it a netlist with its plan, whatever the number of points.
+-- What is refused of a text of a network, and after it a netlist with its plan, whatever the number of points.
 use Rattle.std.specs.Prelude.{ℕ, List, Option}
 use Rattle.tsc_text.specs.Bytes.{bad_line}
 use Rattle.tsc_text.specs.Lines.{lines_of}
@@ -8,7 +8,7 @@ use Rattle.commands.specs.declared.source_format.SourceFormat.TheVariants.{Blif}
 use Rattle.text_sections.specs.Denoted.{behind_source}
 use Rattle.text_sections.specs.Refused.{byte_refusal, first_of, netlist_refusal, source_refusal}
 
--- the lines: the network, then the netlist behind it
+-- the lines: the network, then the netlist after it
 abbrev pub wide_lines_refusal : List TextLine → Option Refusal
 wide_lines_refusal lines = first_of (source_refusal Blif lines) (netlist_refusal lines (behind_source Blif lines))
 

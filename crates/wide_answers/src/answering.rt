@@ -1,4 +1,4 @@
-//! The wide audit of a text: of the netlist behind a network.
+//! The wide audit of a text: of the netlist after a network.
 ghost use Rattle.std.specs.Prelude.{◌≡◌, ◌≤◌, None, length, IfErr, IfOk, OnOk};
 ghost use Rattle.fault_secure.specs.CodePlan.{IsPlanOf};
 ghost use Rattle.wide_audit.specs.Laws.{IsSecureWhereYes};
@@ -18,7 +18,7 @@ use tsc_io::Bytes;
 use tsc_net::Netlist;
 use wide_audit::{WideError, WideVerdict, audit_wide};
 
-/// The audit of the netlist without latches behind the network that `text` begins with, whatever the number of inputs, with so many
+/// The audit of the netlist without latches after the network that `text` begins with, whatever the number of inputs, with so many
 /// rows of decision diagrams.
 ///
 /// # Errors

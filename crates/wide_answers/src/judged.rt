@@ -1,4 +1,4 @@
-//! A network, and the netlist with its plan behind it.
+//! A network, and the netlist with its plan after it.
 ghost use Rattle.std.specs.Prelude.{◌≡◌, ◌≤◌, None, length, IfErr, IfOk, OnOk};
 ghost use Rattle.fault_secure.specs.CodePlan.{IsPlanOf};
 ghost use Rattle.commands.specs.declared.source_format.SourceFormat.TheVariants.{Blif};
@@ -14,7 +14,7 @@ use tsc_io::Bytes;
 use tsc_net::{Netlist, Plan};
 use tsc_text::Lines;
 
-/// A network, and the netlist with its plan behind it.
+/// A network, and the netlist with its plan after it.
 #[derive(Drop)]
 pub struct JudgedNetlist {
     /// The network.

@@ -59,7 +59,7 @@ fn push_why(out: &mut Bytes, net: &Netlist, why: &WideReason) -> Result<(), Allo
     }
 }
 
-/// Appends state 0 and an input, each behind a blank.
+/// Appends state 0 and an input, each after a blank.
 #[tactic(auto, using(crate::proofs::WideLemmas::no_word, crate::proofs::WideLemmas::some_word))]
 fn push_input(out: &mut Bytes, input: &[bool]) -> Result<(), AllocError>
     ensures words { OnOk result (out.new ≡ out.old ++ input_words input.now) }

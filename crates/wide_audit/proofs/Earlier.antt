@@ -1,6 +1,6 @@
 -- The first wrong point with one output more.
-use Rattle.std.proofs.Common.{◌≡◌, ℕ, ◌+◌, ◌<◌, ◌⊎◌, inl, inr, Bool, true, false, List, length, Option, Some, None, sym, ◌∙◌, subst, arith}
-use Rattle.std.proofs.lemmas.Bool.{false≢true, cases_lt, cases_Bool}
+use Rattle.std.proofs.Common.{◌≡◌, ℕ, ◌+◌, ◌<◌, ◌⊎◌, inl, inr, Bool, true, List, length, Option, Some, None, sym, ◌∙◌, subst, arith}
+use Rattle.std.proofs.lemmas.Bool.{cases_lt, cases_Bool}
 use Rattle.std.proofs.Math.Logic.{⊎_elim}
 use Rattle.diagrams.specs.Cofactors.{Function, Same}
 use Rattle.diagrams.specs.Least.{IsUpTo, IsLeast}
@@ -18,11 +18,6 @@ wrong_cases rails differs n x (inr (place, below, e)) = ⊎_elim
 first_at_more : (rails : Function) (differs : ℕ → Function) (n : ℕ) (x : List Bool) (output : Option ℕ) → IsFirstAt rails differs n x output → IsFirstAt rails differs (n + 1) x output
 first_at_more rails differs n x None here = here
 first_at_more rails differs n x (Some place) here = (here.0, let below : place < n = here.1 in omega arith, here.2, here.3)
-
--- an output that differs nowhere
-pub none_more : (inputs : ℕ) (rails : Function) (differs : ℕ → Function) (n : ℕ) → ((x : List Bool) → length x ≡ inputs → IsWrongAt rails differs n x → ⊥) →
-    ((x : List Bool) → length x ≡ inputs → differs n x ≡ false) → (x : List Bool) → length x ≡ inputs → IsWrongAt rails differs (n + 1) x → ⊥
-none_more inputs rails differs n none never x sized wrong = ⊎_elim (λ before. none x sized before) (λ here. false≢true (sym (never x sized) ∙ here)) (wrong_cases rails differs n x wrong)
 
 pub point_more : (inputs : ℕ) (rails : Function) (differs : ℕ → Function) (n : ℕ) (x : List Bool) (output : Option ℕ) → IsFirstPoint inputs rails differs n x output →
     ((y : List Bool) → length y ≡ inputs → differs n y ≡ true → IsUpTo x y) → IsFirstPoint inputs rails differs (n + 1) x output
@@ -64,15 +59,3 @@ least_same inputs f g wanted x same least = record {
   has = sym (same.at x least.sized) ∙ least.has;
   least = λ y sized has. least.least y sized (same.at y sized ∙ has);
 }
-
--- at first the word alone
-pub word_point : (inputs : ℕ) (rails : Function) (differs : ℕ → Function) (x : List Bool) → IsLeast inputs rails false x → IsFirstPoint inputs rails differs 0 x None
-word_point inputs rails differs x least = record { sized = least.sized; here = least.has; first = λ y sized wrong. least.least y sized (word_alone y wrong) }
-  where
-    word_alone : (y : List Bool) → IsWrongAt rails differs 0 y → rails y ≡ false
-    word_alone y (inl agree) = agree
-    word_alone y (inr (place, below, e)) = absurd (omega arith)
-
-pub word_right : (inputs : ℕ) (rails : Function) (differs : ℕ → Function) → ((x : List Bool) → length x ≡ inputs → rails x ≡ true) → (x : List Bool) → length x ≡ inputs → IsWrongAt rails differs 0 x → ⊥
-word_right inputs rails differs all x sized (inl agree) = false≢true (sym agree ∙ all x sized)
-word_right inputs rails differs all x sized (inr (place, below, e)) = absurd (omega arith)

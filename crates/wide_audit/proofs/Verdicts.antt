@@ -101,6 +101,7 @@ module _ (rows : ℕ) (S N : Circuit) (P : CodePlan) where
   plain (No (Word input)) = verdict.No (reason.Word 0 (binary input))
   plain (No (Output input place)) = verdict.No (reason.Output 0 (binary input) place)
 
+  -- a wide verdict is the audit's, `plain`, or it is the no for a latch under a code that lets latches be
   pub is_plain : (w : WideVerdict) → IsWideVerdict rows S N P w → IsVerdict (Network S) N P (plain w) ⊎ (IsLatched S N P × (w ≡ No (Structure reason.Latched)))
   is_plain Yes is = inl is.1
   is_plain (No (Word input)) is = inl is.2
@@ -201,6 +202,7 @@ spent_has_no_verdict rows S N P w spent is = spent_alone rows S N P spent w is
 
 -- ---- what is self-checking and has no latch
 
+-- a self-checking netlist without latches that fits its source has a wide yes where there are rows enough
 pub yes_where_self_checking : (rows : ℕ) (S N : Circuit) (P : CodePlan) → IsSelfChecking (Network S) N P → FitsSource (Network S) N P → length N.latches ≡ 0 → NeedAtMost rows S N P
     → IsWideVerdict rows S N P Yes
 yes_where_self_checking rows S N P checking fits latchless few = self_checking_is_yes rows S N P checking fits (record { no_latch = latchless; few = few })
@@ -210,6 +212,7 @@ plain_no rows S N P (Structure why) e = cc
 plain_no rows S N P (Word input) e = cc
 plain_no rows S N P (Output input place) e = cc
 
+-- with no number of rows has it a wide no
 pub never_no_where_self_checking : SelfCheckingIsNoWideNo
 never_no_where_self_checking rows S N P why checking fits latchless is = ⊎_elim
     (λ plainly. plain_no rows S N P why

@@ -1,9 +1,7 @@
 -- Rows of a checker's gates: what stands for a gate's signal, and one gate more.
-use Rattle.std.proofs.Common.{◌≡◌, ℕ, zero, suc, ◌+◌, ◌<◌, Bool, true, false, List, [], ◌∷◌, map, length, slice_index, slice_index_or, refl, sym, ap, ◌∙◌, subst, arith}
+use Rattle.std.proofs.Common.{◌≡◌, ℕ, zero, suc, ◌<◌, Bool, true, false, List, [], ◌∷◌, map, length, slice_index, slice_index_or, refl, sym, ap, ◌∙◌, subst, arith}
 use Rattle.std.specs.List.{AllByRecursion}
-use Rattle.std.proofs.lemmas.List.{get_or-map}
 use Rattle.tsc_bits.specs.Counting.{differ}
-use Rattle.fault_secure.specs.Circuit.{bit}
 use Rattle.fault_secure.specs.CodePlan.{CodePlan}
 use Rattle.code_checkers.specs.declared.gate.CheckGate.{CheckGate}
 use Rattle.code_checkers.specs.declared.gate.CheckGate.TheVariants as gate
@@ -13,30 +11,19 @@ use Rattle.code_checkers.specs.Checker.{rail1, rail2}
 use Rattle.code_checkers.specs.Walk.{walk}
 use Rattle.code_checkers.specs.Gates.{signal_of, signals_of, meaning, AreOrdered}
 use Rattle.code_checkers.specs.GateList.{GateList, IsCheckerOf}
-use Rattle.code_checkers.specs.Within.{ReadsWord}
 use Rattle.code_checkers.proofs.Gates.{length-signals_of}
 use Rattle.code_checkers.proofs.Sharing.{meaning_is}
 use Rattle.diagrams.specs.declared.memo.Operation.TheVariants as operation
 use Rattle.diagrams.specs.Operations.{combined}
 use Rattle.diagrams.specs.Cofactors.{Function, Same, IsCofactorOfOne}
-use Rattle.diagrams.specs.Building.{DiagramState, no_input, StandsFor}
+use Rattle.diagrams.specs.Building.{DiagramState, StandsFor}
 use Rattle.diagrams.proofs.CofactorLemmas.{of_one-same}
 use Rattle.diagrams.proofs.Waits.{stands_same}
-use Rattle.cover_diagrams.specs.Covering.{HasRow, values, pin_function, StandForPins}
+use Rattle.cover_diagrams.specs.Covering.{HasRow, values}
 use Rattle.wide_diagrams.specs.Stated.{signal_function, difference, checker_functions}
 use Rattle.circuit_diagrams.specs.Steps.{AreKept, AreBuilt}
-use Rattle.wide_diagrams.specs.GateRows.{SignalsStand, ReadPlacesBelow}
+use Rattle.wide_diagrams.specs.GateRows.{SignalsStand}
 use Rattle.circuit_diagrams.proofs.Lists.{each-append, each-front, each-back, each-map, map-at}
-
--- a place of the word
-word_value : (ws : List Function) (x : List Bool) (place : ℕ) → place < length ws → bit (values ws x) place ≡ pin_function ws place x
-word_value ws x place inside = get_or-map (λ (w : Function). w x) ws place no_input false inside
-
-pub word_stands : (state : DiagramState) (ws : List Function) (word : List ℕ) (place : ℕ) → StandForPins state ws word → place < length word → StandsFor state (signal_function ws (Word place)) (slice_index word place)
-word_stands state ws word place P inside =
-    let sized = P.sized in
-    stands_same state (pin_function ws place) (signal_function ws (Word place)) state.inputs (slice_index word place) refl
-    (record { at = λ x known. sym (word_value ws x place (omega (arith, sized, inside))) }) (P.at place inside)
 
 -- XOR
 xor_is : (a b : Bool) → combined operation.Xor a b ≡ differ a b
@@ -88,7 +75,3 @@ pub rail_stands : (state : DiagramState) (ws : List Function) (made : GateList) 
 rail_stands state ws made signal place rail rows is means inside stand =
     subst (λ (n : ℕ). StandsFor state (signal_function ws signal) (slice_index rows n)) (sym is)
     (subst (λ (s : Signal). StandsFor state (signal_function ws s) (slice_index rows rail)) means (stand rail inside))
-
--- the gates of a plan's checker read places of its word
-pub places_below : (P : CodePlan) (made : GateList) (n : ℕ) → n ≡ P.outputs + length P.checks + P.latches → ReadsWord P made → ReadPlacesBelow n made.gates
-places_below P made n sized reads = λ k inside place is. (let low = reads k place inside is in omega (arith, sized, low))

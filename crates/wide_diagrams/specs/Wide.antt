@@ -40,10 +40,11 @@ stated_functions S vs N v P = circuit_functions S vs S.outputs ++ functions_besi
 abbrev pub stated_count : Circuit → (List Bool → List Bool) → Circuit → (List Bool → List Bool) → CodePlan → ℕ
 stated_count S vs N v P = cofactor_count N.inputs (no_input ∷ any_input ∷ stated_functions S vs N v P)
 
--- they are more than so many; at most so many
+-- these different cofactors are more than so many
 abbrev pub NeedMoreRows : ℕ → Circuit → Circuit → CodePlan → Type 0
 NeedMoreRows rows S N P = (vs v : List Bool → List Bool) → AreValuations S vs → AreValuations N v → rows < stated_count S vs N v P
 
+-- these different cofactors are at most so many
 abbrev pub NeedAtMost : ℕ → Circuit → Circuit → CodePlan → Type 0
 NeedAtMost rows S N P = (vs v : List Bool → List Bool) → AreValuations S vs → AreValuations N v → stated_count S vs N v P ≤ rows
 

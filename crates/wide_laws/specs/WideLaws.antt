@@ -20,7 +20,7 @@ pub record IsWidelyAccepted (rows : ℕ) (text answer : List ℕ) : Type 0 where
       → IsAnswer (AuditWide rows) (text ++ answer) (codes "yes" ++ 10 ∷ [])
   pub never_no : (reply : List ℕ) → IsNo (AuditWide rows) (text ++ answer) reply → ⊥
 
--- so it is with what a synthesis answers, behind its source, where that has an end line
+-- so it is with what a synthesis answers, after its source, where that has an end line
 abbrev pub WideAnswersAreAccepted : Type 0
 WideAnswersAreAccepted = (way : Way) (rows : ℕ) (text answer : List ℕ) → text_refusal Source text ≡ None → IsEndedSource BlifEnd text
     → IsSynthesis way text answer → IsWidelyAccepted rows text answer

@@ -3,14 +3,12 @@
 use Rattle.std.specs.Prelude.{◌≡◌, ℕ, ◌+◌, ◌-◌, ◌<◌, Bool, true, false, if◌then◌else◌, not, ◌==◌, ◌||◌, nat_lt, List, length, map, slice_index, count_by}
 use Rattle.std.specs.List.{position_or_len}
 use Rattle.tsc_bits.specs.Lists.{list_at}
-use Rattle.fault_secure.specs.Circuit.{bit}
+use Rattle.fault_secure.specs.Circuit.{NodeOf, bit}
 use Rattle.tsc_net.specs.Order.{has_place, fan_in, order_from, evaluation_order, walk, ring}
-use Rattle.tsc_net.specs.PlanView.{net_numbers}
-use Rattle.tsc_net.specs.declared.netlist.Node.{Node}
 
 -- the nets that each node reads
-abbrev pub nets_of : List Node → List (List ℕ)
-nets_of nodes = map (λ n. net_numbers n.reads.items) nodes
+abbrev pub nets_of : List NodeOf → List (List ℕ)
+nets_of nodes = map (λ n. n.reads) nodes
 
 -- the fan-ins of nodes that read these nets; `base` is the net of the first node
 abbrev pub fans_over : ℕ → List (List ℕ) → List (List ℕ)

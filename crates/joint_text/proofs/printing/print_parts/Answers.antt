@@ -9,7 +9,7 @@ use Rattle.joint_text.specs.Portions.{head_text, latches_text, nodes_text, tail_
 use Rattle.joint_text.proofs.JointIsNamed.{joint_portions}
 use Rattle.joint_text.proofs.printing.print_parts.Goals as goal
 
--- what is left behind the head, and behind the latches
+-- what is left after the head, and after the latches
 abbrev behind_latches : List PlannedOf → List ℕ
 behind_latches parts = nodes_text (prefix_of parts) 0 parts ++ tail_text parts
 

@@ -67,7 +67,7 @@ two_more f texts a b nets are = ap length are ∙ length-map (texts ++ (a ∷ (b
 pub plan_of-requires-clause-sized : goal.plan_of-requires-clause-sized
 plan_of-requires-clause-sized c = two_more _ _ _ _ _ c.in_ok-net.ensures.net.parts.outputs ∙ ap (λ (n : ℕ). n + 2) c.requires.outputs
 
--- the plan's checks are the fresh names behind those of the latches, and as many as there are
+-- the plan's checks are the fresh names after those of the latches, and as many as there are
 checks_are : (c : In_ok-plan)
     → c.in_ok-plan.plan.checks
     ≡ map (λ (k : ℕ). place_of_text c.in_ok-net.net.names (fresh_text (free_number (c.args.inputs.now ++ c.args.outputs.now)) k)) (range_with_len (2 * c.args.codes.now.n) c.args.checks)

@@ -1,4 +1,4 @@
--- The first characters are those of the word behind its blank.
+-- The first characters are those of the word after its blank.
 use Rattle.std.proofs.Common.{◌≡◌, ◌+◌, ◌∷◌, length, map, take}
 use Rattle.tsc_bits.specs.Bits.{bits_of}
 use Rattle.sim_text.specs.StepLine.{digit}

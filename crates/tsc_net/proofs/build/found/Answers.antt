@@ -1,17 +1,15 @@
 -- The fan-ins by the nets that nodes keep are those of the circuit's nodes.
-use Rattle.std.proofs.Common.{◌≡◌, ℕ, List, [], ◌∷◌, map, refl, sym, ap, subst, IfOk}
+use Rattle.std.proofs.Common.{◌≡◌, ℕ, List, [], ◌∷◌, refl, sym, ap, subst, IfOk}
 use Rattle.tsc_net.specs.Order.{fan_in, ReadsWithin}
-use Rattle.tsc_net.specs.NetlistView.{node_as}
-use Rattle.tsc_net.specs.PlanView.{net_numbers}
 use Rattle.tsc_net.specs.inner.Build.{fans_from}
 use Rattle.tsc_net.specs.inner.OrderFound.{IsFound}
 use Rattle.tsc_net.specs.inner.OrderSearch.{nets_of, fans_over}
-use Rattle.tsc_net.specs.declared.netlist.Node.{Node}
+use Rattle.fault_secure.specs.Circuit.{NodeOf}
 use Rattle.tsc_net.proofs.build.found.Goals as goal
 
-fans_same : (base : ℕ) (nodes : List Node) → fans_from base (map node_as nodes) ≡ fans_over base (nets_of nodes)
+fans_same : (base : ℕ) (nodes : List NodeOf) → fans_from base nodes ≡ fans_over base (nets_of nodes)
 fans_same base [] = refl
-fans_same base (n ∷ nodes) = ap (λ fans. fan_in base (net_numbers n.reads.items) ∷ fans) (fans_same base nodes)
+fans_same base (n ∷ nodes) = ap (λ fans. fan_in base n.reads ∷ fans) (fans_same base nodes)
 
 pub evaluation_order-requires : goal.evaluation_order-requires
 evaluation_order-requires c = record { within = subst ReadsWithin (fans_same c.args.first_node c.args.nodes.now) c.requires.within }

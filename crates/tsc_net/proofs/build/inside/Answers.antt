@@ -5,7 +5,7 @@ use Rattle.tsc_net.specs.NetlistOf.{drivers, numbered_latch, numbered_node}
 use Rattle.tsc_net.specs.NetFault.{first_missing, no_outputs}
 use Rattle.tsc_net.specs.Names.{place_of_text}
 use Rattle.tsc_net.specs.inner.NetNames.{KeepsMarks}
-use Rattle.tsc_net.specs.NetlistView.{latch_as, node_as}
+use Rattle.tsc_net.specs.NetlistView.{latch_as}
 use Rattle.tsc_net.specs.Parts.{PartsOf}
 use Rattle.tsc_net.specs.PartsView.{latch_of, texts_of, model_or, IsName}
 use Rattle.tsc_net.specs.PlanView.{net_numbers}
@@ -121,15 +121,18 @@ returns-in_err-outputs-clause-some_output c = search rules
 pub same-names : goal.same-names
 same-names c = refl
 
+pub same-nodes : goal.same-nodes
+same-nodes c = refl
+
 pub returns-clause-net : goal.returns-clause-net
 returns-clause-net c =
     let N = c.args.parts.named in
     let at = goal.at.returns-clause-net c in
     let s = told at.After-new-names in
-    put_together N c.len.result (map latch_as c.in_ok-latches.latches.items) (map node_as c.in_ok-nodes.nodes.items) (net_numbers c.in_ok-outputs.outputs)
+    put_together N c.len.result (map latch_as c.in_ok-latches.latches.items) (c.in_ok-nodes.nodes) (net_numbers c.in_ok-outputs.outputs)
     c.new-names.result.nets (model_or c.parts.inside.model) (c.len.ensures.count ∙ s.inputs)
     (carried (λ d (x : List NamedLatch). map latch_as c.in_ok-latches.latches.items ≡ map (numbered_latch d) x) _ _ _ _ s.nets (latches_told at.After-deref s) c.in_ok-latches.ensures.latches)
-    (carried (λ d (x : List NamedNode). map node_as c.in_ok-nodes.nodes.items ≡ map (numbered_node d) x) _ _ _ _ s.nets s.nodes c.in_ok-nodes.ensures.nodes)
+    (carried (λ d (x : List NamedNode). c.in_ok-nodes.nodes ≡ map (numbered_node d) x) _ _ _ _ s.nets s.nodes c.in_ok-nodes.ensures.nodes)
     (carried (λ d (x : List (List ℕ)). net_numbers c.in_ok-outputs.outputs ≡ map (place_of_text d) x) _ _ _ _ s.nets (outputs_told at.After-as_slice s) c.in_ok-outputs.ensures.outputs)
     s.nets s.model
 

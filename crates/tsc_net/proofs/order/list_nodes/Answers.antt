@@ -4,7 +4,6 @@ use Rattle.std.specs.Ordering.{nat_cmp}
 use Rattle.std.proofs.lemmas.List.{length-map, length_push}
 use Rattle.fault_secure.specs.Circuit.{bit}
 use Rattle.tsc_net.specs.Order.{has_place, fan_in, ReadsWithin}
-use Rattle.tsc_net.specs.PlanView.{net_numbers}
 use Rattle.tsc_net.specs.inner.OrderSearch.{nets_of, fans_over, IsListing, IsSearch, IsReady, MarksOf, GoesOn}
 use Rattle.tsc_bits.specs.Lists.{list_at}
 use Rattle.tsc_net.proofs.OrderSearchLemmas.{listed_ready, woken_within, woken_unmarked, search_listed}
@@ -74,7 +73,7 @@ look_again-requires-clause-woken c =
     let all = first_woken c.args.first_node (nets_of c.args.nodes.now) c.loop-node.is_listed c.loop-node.search.stops.items c.loop-node.search.waiters
     c.loop-node.search.ready.keys c.loop-node.listed.items c.in-Some.node c.pop_first.new.self.keys c.in-Some.ensures.removal c.in-Some.ensures.all_above c.loop-node.invariant in
     subst (λ nodes. All (λ j. j < length c.args.nodes.now) nodes) (sym (c.as_slice.ensures ∙ c.take-woken.ensures.taken))
-    (λ k d h. omega (arith, all k d h, length-map c.args.nodes.now (λ n. net_numbers n.reads.items)))
+    (λ k d h. omega (arith, all k d h, length-map c.args.nodes.now (λ n. n.reads)))
 
 pub look_again-requires-clause-unlisted : goal.look_again-requires-clause-unlisted
 look_again-requires-clause-unlisted c =
@@ -108,7 +107,7 @@ pub loop-node-smaller : goal.loop-node-smaller
 loop-node-smaller c =
     next_fewer c.args.first_node (nets_of c.args.nodes.now) c.loop-node.is_listed c.loop-node.search.stops.items c.loop-node.search.waiters
     c.loop-node.search.ready.keys c.loop-node.listed.items c.in-Some.node c.pop_first.new.self.keys c.in-Some.ensures.removal c.in-Some.ensures.all_above c.loop-node.invariant
-    c.push.new.self.items (length c.args.nodes.now) c.in_ok-push.ensures.items (sym (length-map c.args.nodes.now (λ n. net_numbers n.reads.items)))
+    c.push.new.self.items (length c.args.nodes.now) c.in_ok-push.ensures.items (sym (length-map c.args.nodes.now (λ n. n.reads)))
 
 pub loop-node-preserved : goal.loop-node-preserved
 loop-node-preserved c =
@@ -121,7 +120,7 @@ pub loop-node-smaller-in_ok-look_again : goal.loop-node-smaller-in_ok-look_again
 loop-node-smaller-in_ok-look_again c =
     next_fewer c.args.first_node (nets_of c.args.nodes.now) c.loop-node.is_listed c.loop-node.search.stops.items c.loop-node.search.waiters
     c.loop-node.search.ready.keys c.loop-node.listed.items c.in-Some.node c.pop_first.new.self.keys c.in-Some.ensures.removal c.in-Some.ensures.all_above c.loop-node.invariant
-    c.push.new.self.items (length c.args.nodes.now) c.in_ok-push.ensures.items (sym (length-map c.args.nodes.now (λ n. net_numbers n.reads.items)))
+    c.push.new.self.items (length c.args.nodes.now) c.in_ok-push.ensures.items (sym (length-map c.args.nodes.now (λ n. n.reads)))
 
 pub loop-node-preserved-in_ok-look_again : goal.loop-node-preserved-in_ok-look_again
 loop-node-preserved-in_ok-look_again c =

@@ -10,17 +10,17 @@ use Rattle.tsc_net.proofs.ring.blocker_of.Goals as goal
 
 pub first_unlisted-stop-requires : goal.first_unlisted-stop-requires
 first_unlisted-stop-requires c = record {
-  within = reads_within c.args.first_node c.args.nodes.now c.as_slice-reads.result.now c.args.node (length c.args.is_listed.now) c.index-nodes-node.result
-      c.requires.within c.requires.node c.as_slice-reads.ensures (c.requires.marked.sized ∙ fans_many c.args.first_node c.args.nodes.now);
+  within = reads_within c.args.first_node c.args.nodes.now c.reads-reads.result.now c.args.node (length c.args.is_listed.now)
+      c.requires.within c.requires.node c.reads-reads.ensures.reads (c.requires.marked.sized ∙ fans_many c.args.first_node c.args.nodes.now);
 }
 
 pub returns-then-stop-reads-clause-blocker : goal.returns-then-stop-reads-clause-blocker
 returns-then-stop-reads-clause-blocker c =
     let base = c.args.first_node in
     let fans = fans_over base (nets_of c.args.nodes.now) in
-    let reads = c.as_slice-reads.result.now in
+    let reads = c.reads-reads.result.now in
     let stop = c.first_unlisted-stop.result in
-    let seen = fan_seen base c.args.nodes.now reads c.args.node c.index-nodes-node.result c.requires.node c.as_slice-reads.ensures in
+    let seen = fan_seen base c.args.nodes.now reads c.args.node c.requires.node c.reads-reads.ensures.reads in
     let within : All (λ k. k < length fans) (fan_in base (net_numbers reads)) =
     subst (All (λ k. k < length fans)) (sym seen) (c.requires.within c.args.node [] (omega (arith, c.requires.node, fans_many base c.args.nodes.now))) in
     let long = length-map reads (λ net. net.number) in
@@ -35,10 +35,10 @@ pub returns-then-stop-reads-clause-within : goal.returns-then-stop-reads-clause-
 returns-then-stop-reads-clause-within c =
     let base = c.args.first_node in
     let nodes = c.args.nodes.now in
-    let reads = c.as_slice-reads.result.now in
+    let reads = c.reads-reads.result.now in
     let stop = c.first_unlisted-stop.result in
-    let many = length-map nodes (λ n. net_numbers n.reads.items) in
-    let here = nets_at nodes reads c.args.node c.index-nodes-node.result c.requires.node c.as_slice-reads.ensures in
+    let many = length-map nodes (λ n. n.reads) in
+    let here = nets_at nodes reads c.args.node c.requires.node c.reads-reads.ensures.reads in
     let stopped = subst (λ net. is_passed base c.args.is_listed.now net ≡ false) (number_at reads stop c.if-stop-reads.true) (c.first_unlisted-stop.ensures.stopped c.if-stop-reads.true) in
     let waits = waits_at base (nets_of nodes) c.args.is_listed.now c.args.node stop reads c.requires.within (omega (arith, c.requires.node, many)) here c.if-stop-reads.true stopped in
     omega (arith, waits.inside, many)
@@ -47,8 +47,8 @@ pub returns-else-stop-reads-clause-blocker : goal.returns-else-stop-reads-clause
 returns-else-stop-reads-clause-blocker c =
     let base = c.args.first_node in
     let fans = fans_over base (nets_of c.args.nodes.now) in
-    let reads = c.as_slice-reads.result.now in
-    let seen = fan_seen base c.args.nodes.now reads c.args.node c.index-nodes-node.result c.requires.node c.as_slice-reads.ensures in
+    let reads = c.reads-reads.result.now in
+    let seen = fan_seen base c.args.nodes.now reads c.args.node c.requires.node c.reads-reads.ensures.reads in
     let within : All (λ k. k < length fans) (fan_in base (net_numbers reads)) =
     subst (All (λ k. k < length fans)) (sym seen) (c.requires.within c.args.node [] (omega (arith, c.requires.node, fans_many base c.args.nodes.now))) in
     let long = length-map reads (λ net. net.number) in

@@ -15,7 +15,7 @@ loop-path-init c =
     let inside : at < length fans = first_within fans c.args.is_listed.now at c.requires.marked c.requires.cut c.first_unmarked-at.ensures.within c.first_unmarked-at.ensures.passed in
     subst (λ path. IsWalk fans c.in_ok-steps.steps.items path at) (sym c.new-path.ensures.items)
     (walk_begins fans c.args.is_listed.now c.in_ok-steps.steps.items at c.requires.marked
-    (c.in_ok-steps.ensures.count ∙ sym (fans_many c.args.first_node c.args.nodes.now)) c.in_ok-steps.ensures.zero inside
+    (c.in_ok-steps.ensures.count ∙ c.len.ensures.count ∙ sym (fans_many c.args.first_node c.args.nodes.now)) c.in_ok-steps.ensures.zero inside
     c.first_unmarked-at.ensures.passed (c.first_unmarked-at.ensures.unmarked (omega (arith, inside, c.requires.marked.sized))))
 
 -- the step that was read
@@ -33,7 +33,7 @@ pub loop-path-preserved : goal.loop-path-preserved
 loop-path-preserved c =
     let fans = fans_over c.args.first_node (nets_of c.args.nodes.now) in
     let fresh = sym (read fans c.loop-path.steps.items c.loop-path.path.items c.loop-path.at c.index.result.now c.loop-path.invariant c.index.ensures) ∙ c.loop-path-test.true in
-    let count : c.len.result ≡ length c.loop-path.path.items + 1 = omega (arith, c.len.ensures, c.in_ok-push.ensures.len, c.loop-path.path.ok) in
+    let count : c.len-in-loop-path.result ≡ length c.loop-path.path.items + 1 = omega (arith, c.len-in-loop-path.ensures, c.in_ok-push.ensures.len, c.loop-path.path.ok) in
     subst (λ n. IsWalk fans (slice_set c.loop-path.steps.items c.loop-path.at n) c.push.new.self.items c.blocker_of-at.result) (sym count)
     (subst (λ path. IsWalk fans (slice_set c.loop-path.steps.items c.loop-path.at (length c.loop-path.path.items + 1)) path c.blocker_of-at.result) (sym c.in_ok-push.ensures.items)
     (walk_more fans c.loop-path.steps.items c.loop-path.path.items c.loop-path.at c.loop-path.invariant fresh c.blocker_of-at.result

@@ -1,4 +1,4 @@
--- At a point without a mark the first nets behind the rails are the same.
+-- At a point without a mark the first nets after the rails are the same.
 use Rattle.std.proofs.Common.{◌≡◌, ◌↔◌, ℕ, ◌<◌, false}
 use Rattle.lane_sim.specs.Lanes.{lane_bit}
 use Rattle.unheard_cells.specs.There.{AreSameAt}

@@ -9,18 +9,18 @@ use Rattle.tsc_net.proofs.order.Search.look.Goals as goal
 
 pub first_unlisted-stop-requires : goal.first_unlisted-stop-requires
 first_unlisted-stop-requires c = record {
-  within = reads_within c.args.first_node c.args.nodes.now c.as_slice-reads.result.now c.args.node (length c.args.is_listed.now) c.index-nodes-node.result
-      c.requires.within c.requires.node c.as_slice-reads.ensures c.requires.marks_sized;
+  within = reads_within c.args.first_node c.args.nodes.now c.reads-reads.result.now c.args.node (length c.args.is_listed.now)
+      c.requires.within c.requires.node c.reads-reads.ensures.reads c.requires.marks_sized;
 }
 
 pub returns-in_ok-insert : goal.returns-in_ok-insert
 returns-in_ok-insert c = record {
   search = λ pending search.
       let nets = nets_of c.args.nodes.now in
-      let many = length-map c.args.nodes.now (λ n. net_numbers n.reads.items) in
-      let reads = net_numbers c.as_slice-reads.result.now in
-      let long = length-map c.as_slice-reads.result.now (λ net. net.number) in
-      let here : reads ≡ list_at nets c.args.node = nets_at c.args.nodes.now c.as_slice-reads.result.now c.args.node c.index-nodes-node.result c.requires.node c.as_slice-reads.ensures in
+      let many = length-map c.args.nodes.now (λ n. n.reads) in
+      let reads = net_numbers c.reads-reads.result.now in
+      let long = length-map c.reads-reads.result.now (λ net. net.number) in
+      let here : reads ≡ list_at nets c.args.node = nets_at c.args.nodes.now c.reads-reads.result.now c.args.node c.requires.node c.reads-reads.ensures.reads in
       let passed = passed_in c.args.first_node nets c.args.is_listed.now c.args.self.now.stops.items reads c.args.node c.index.result.now c.first_unlisted-stop.result
       (omega (arith, c.requires.node, c.requires.stops_sized)) c.index.ensures here
       (λ pin after before inside. c.first_unlisted-stop.ensures.passed pin after before (omega (arith, inside, long))) in
@@ -34,10 +34,10 @@ returns-in_ok-insert c = record {
 pub add-requires : goal.add-requires
 add-requires c =
     let nets = nets_of c.args.nodes.now in
-    let many = length-map c.args.nodes.now (λ n. net_numbers n.reads.items) in
-    let reads = c.as_slice-reads.result.now in
+    let many = length-map c.args.nodes.now (λ n. n.reads) in
+    let reads = c.reads-reads.result.now in
     let stop = c.first_unlisted-stop.result in
-    let here = nets_at c.args.nodes.now reads c.args.node c.index-nodes-node.result c.requires.node c.as_slice-reads.ensures in
+    let here = nets_at c.args.nodes.now reads c.args.node c.requires.node c.reads-reads.ensures.reads in
     let stopped = subst (λ net. is_passed c.args.first_node c.args.is_listed.now net ≡ false) (number_at reads stop c.if-stop-reads.true) (c.first_unlisted-stop.ensures.stopped c.if-stop-reads.true) in
     let waits = waits_at c.args.first_node nets c.args.is_listed.now c.args.node stop reads c.requires.within (omega (arith, c.requires.node, many)) here c.if-stop-reads.true stopped in
     record { within = omega (arith, waits.inside, many, c.requires.waiters_sized) }
@@ -48,12 +48,12 @@ returns-in_ok-add c = record {
       let base = c.args.first_node in
       let nets = nets_of c.args.nodes.now in
       let marks = c.args.is_listed.now in
-      let many = length-map c.args.nodes.now (λ n. net_numbers n.reads.items) in
-      let reads = c.as_slice-reads.result.now in
+      let many = length-map c.args.nodes.now (λ n. n.reads) in
+      let reads = c.reads-reads.result.now in
       let long = length-map reads (λ net. net.number) in
       let stop = c.first_unlisted-stop.result in
       let node_in : c.args.node < length nets = omega (arith, c.requires.node, many) in
-      let here = nets_at c.args.nodes.now reads c.args.node c.index-nodes-node.result c.requires.node c.as_slice-reads.ensures in
+      let here = nets_at c.args.nodes.now reads c.args.node c.requires.node c.reads-reads.ensures.reads in
       let passed = passed_in base nets marks c.args.self.now.stops.items (net_numbers reads) c.args.node c.index.result.now stop
       (omega (arith, c.requires.node, c.requires.stops_sized)) c.index.ensures here
       (λ pin after before inside. c.first_unlisted-stop.ensures.passed pin after before (omega (arith, inside, long))) in
