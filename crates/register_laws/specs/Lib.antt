@@ -1,0 +1,5 @@
+pub mod RegisterPlan
+pub mod RegisterStructure
+pub mod RegisterSecure
+pub mod RegisterLaws
+pub mod Twin

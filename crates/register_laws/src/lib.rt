@@ -1,0 +1,10 @@
+//! Laws of netlists of sources with registers: two copies of covers and registers, of which one is shown.
+//! Its main definitions are `IsTwin`, `Reaches` and `IsRegisterSecure`, secure against the runs of the source circuit itself.
+//! It stands on `fault_secure` (circuits, runs, plans), `structure_laws`, `mapping_laws`, `tsc_cover` and `tsc_bits`.
+//! Its main promise: a twin gives no wrong output before its alarm, whatever any one cell, cover or register gives at any steps (`twins_are_secure`).
+//! Definitions, in reading order: specs/RegisterPlan, RegisterStructure, RegisterSecure, RegisterLaws, Twin.
+#![tactic(auto)]
+
+mod registers;
+
+pub use registers::{registers_are_fault_secure, registers_are_secure};
