@@ -1,2 +1,5 @@
 pub mod Outside
 pub mod Secure
+pub mod CopyBits
+pub mod CopyReach
+pub mod TwinsSecure

@@ -6,5 +6,7 @@
 #![tactic(auto)]
 
 mod registers;
+mod twins;
 
 pub use registers::{registers_are_fault_secure, registers_are_secure};
+pub use twins::twins_are_secure;
