@@ -3,3 +3,5 @@ pub mod Secure
 pub mod CopyBits
 pub mod CopyReach
 pub mod TwinsSecure
+pub mod WatchParity
+pub mod PartRuns

@@ -3,3 +3,5 @@ pub mod RegisterStructure
 pub mod RegisterSecure
 pub mod RegisterLaws
 pub mod Twin
+pub mod Watch
+pub mod Part

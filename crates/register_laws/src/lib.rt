@@ -5,8 +5,10 @@
 //! Definitions, in reading order: specs/RegisterPlan, RegisterStructure, RegisterSecure, RegisterLaws, Twin.
 #![tactic(auto)]
 
+mod parts;
 mod registers;
 mod twins;
 
+pub use parts::{parts_answer_alike, secure_for_the_whole};
 pub use registers::{registers_are_fault_secure, registers_are_secure};
-pub use twins::twins_are_secure;
+pub use twins::{differing_registers_are_heard, twins_are_secure};
