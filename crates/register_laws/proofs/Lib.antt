@@ -5,3 +5,4 @@ pub mod CopyReach
 pub mod TwinsSecure
 pub mod WatchParity
 pub mod PartRuns
+pub mod MappedRegisters

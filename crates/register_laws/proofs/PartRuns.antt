@@ -11,6 +11,7 @@ use Rattle.structure_laws.proofs.FirstErrors.{CleanFrom, clean_from}
 use Rattle.register_laws.specs.RegisterPlan.{RegisterPlan}
 use Rattle.register_laws.specs.RegisterSecure.{shown, NoWrongOutput, IsHeard}
 use Rattle.register_laws.specs.Twin.{Placing}
+use Rattle.register_laws.specs.RegisterMapping.{AlarmSecureForTheWhole}
 use Rattle.register_laws.specs.Part.{IsPart, PartsAnswerAlike, SecureForTheWhole, FaultSecureForTheWhole}
 use Rattle.register_laws.proofs.CopyBits.{map_renamed, SameStates, copy_bits, copy_next, copy_init}
 use Rattle.register_laws.proofs.Secure.{run_sized}
@@ -47,19 +48,19 @@ module _ (T S : Circuit) (place : Placing) (part : IsPart T S place) (m : List B
   same_shown : map (shown S) ws ≡ map (shown T) part_run.run
   same_shown = parts_answer_alike T S place (map (λ _. false) xs) m xs part_run.run ws part part_run.runs run
 
+  shown_at : (step : ℕ) → step < length xs → shown T (at_step part_run.run step) ≡ shown S (at_step ws step)
+  shown_at step within =
+      let e = run_sized T (init_state T) xs part_run.run (clean_from T (init_state T) (map (λ _. false) xs) xs part_run.run part_run.runs) in
+      let f = run_sized S (init_state S) xs ws (clean_from S (init_state S) m xs ws run) in
+      sym (get_or-map (shown T) part_run.run step [] [] (omega arith))
+      ∙ ap (λ items. at_step items step) (sym same_shown)
+      ∙ get_or-map (shown S) ws step [] [] (omega arith)
+
+  alarmed_whole : (N : Circuit) (P : RegisterPlan) (us : List (List Bool)) → NoWrongOutput T N P xs part_run.run us → NoWrongOutput S N P xs ws us
+  alarmed_whole N P us alarmed step within wrong = alarmed step within (λ right. wrong (right ∙ shown_at step within))
+
   heard_whole : (N : Circuit) (P : RegisterPlan) (vs us : List (List Bool)) → IsHeard T N P xs part_run.run vs us → IsHeard S N P xs ws vs us
-  heard_whole N P vs us heard = record {
-    errors_show = heard.errors_show;
-    no_wrong_output = λ step within wrong. heard.no_wrong_output step within (λ right. wrong (right ∙ at step within));
-  }
-    where
-      at : (step : ℕ) → step < length xs → shown T (at_step part_run.run step) ≡ shown S (at_step ws step)
-      at step within =
-          let e = run_sized T (init_state T) xs part_run.run (clean_from T (init_state T) (map (λ _. false) xs) xs part_run.run part_run.runs) in
-          let f = run_sized S (init_state S) xs ws (clean_from S (init_state S) m xs ws run) in
-          sym (get_or-map (shown T) part_run.run step [] [] (omega arith))
-          ∙ ap (λ items. at_step items step) (sym same_shown)
-          ∙ get_or-map (shown S) ws step [] [] (omega arith)
+  heard_whole N P vs us heard = record { errors_show = heard.errors_show; no_wrong_output = alarmed_whole N P us heard.no_wrong_output }
 
 -- what is secure for a part is secure for the whole
 pub secure_for_the_whole : SecureForTheWhole
@@ -90,4 +91,19 @@ fault_secure_for_the_whole T S N P place part acyclic secure = record {
   heard = λ f h m w xs ws vs us listed source run held.
       heard_whole T S place part m xs ws source N P vs us
       (secure.heard f h (map (λ _. false) xs) w xs (part_run T S place part m xs ws source).run vs us listed (part_run T S place part m xs ws source).runs run held);
+}
+
+pub alarm_secure_for_the_whole : AlarmSecureForTheWhole
+alarm_secure_for_the_whole T S N P place part acyclic secure = record {
+  source_runs = λ m xs sized. one_run S NoFault m xs acyclic sized;
+  one_run = secure.one_run;
+  one_run_but = secure.one_run_but;
+  follows = λ m w xs ws vs source run.
+      secure.follows (map (λ _. false) xs) w xs (part_run T S place part m xs ws source).run vs (part_run T S place part m xs ws source).runs run
+      ∙ sym (same_shown T S place part m xs ws source);
+  quiet = λ m w xs ws vs source run.
+      secure.quiet (map (λ _. false) xs) w xs (part_run T S place part m xs ws source).run vs (part_run T S place part m xs ws source).runs run;
+  alarmed = λ cell m w xs ws vs us is source run held.
+      alarmed_whole T S place part m xs ws source N P us
+      (secure.alarmed cell (map (λ _. false) xs) w xs (part_run T S place part m xs ws source).run vs us is (part_run T S place part m xs ws source).runs run held);
 }

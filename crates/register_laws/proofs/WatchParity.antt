@@ -42,10 +42,6 @@ last_alone : (b : Bool) → differ (not b) false ≡ not (differ false b)
 last_alone true = refl
 last_alone false = refl
 
-not_false : (a : Bool) → not a ≡ differ (not a) false
-not_false true = refl
-not_false false = refl
-
 module _ (N : Circuit) (own copy : Placing) (v : List Bool) where
   -- how many registers differ is even or odd as both parities are the same or not
   pub differences_odd : (registers : List ℕ)

@@ -5,3 +5,4 @@ pub mod RegisterLaws
 pub mod Twin
 pub mod Watch
 pub mod Part
+pub mod RegisterMapping

@@ -5,10 +5,15 @@
 //! Definitions, in reading order: specs/RegisterPlan, RegisterStructure, RegisterSecure, RegisterLaws, Twin.
 #![tactic(auto)]
 
+mod mapped;
 mod parts;
 mod registers;
 mod twins;
 
+pub use mapped::{
+    alarm_secure_registers_show_faults, mapped_registers_are_alarm_secure,
+    mapped_registers_are_block_alarm_secure, register_secure_is_alarm_secure,
+};
 pub use parts::{parts_answer_alike, secure_for_the_whole};
 pub use registers::{registers_are_fault_secure, registers_are_secure};
 pub use twins::{differing_registers_are_heard, twins_are_secure};
