@@ -6,3 +6,4 @@ pub mod TwinsSecure
 pub mod WatchParity
 pub mod PartRuns
 pub mod MappedRegisters
+pub mod SmallTwinCopies

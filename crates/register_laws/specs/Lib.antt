@@ -6,3 +6,4 @@ pub mod Twin
 pub mod Watch
 pub mod Part
 pub mod RegisterMapping
+pub mod SmallTwin

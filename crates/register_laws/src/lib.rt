@@ -8,6 +8,7 @@
 mod mapped;
 mod parts;
 mod registers;
+mod small_twin;
 mod twins;
 
 pub use mapped::{
@@ -16,4 +17,5 @@ pub use mapped::{
 };
 pub use parts::{parts_answer_alike, secure_for_the_whole};
 pub use registers::{registers_are_fault_secure, registers_are_secure};
+pub use small_twin::the_small_twin_is_secure;
 pub use twins::{differing_registers_are_heard, twins_are_secure};
