@@ -1,8 +1,8 @@
 -- A copy of a source within a netlist has the source's bits, at every step without a fault.
 use Rattle.std.proofs.Common.{◌≡◌, ℕ, suc, ◌<◌, ◌≤◌, Bool, false, List, [], ◌∷◌, map, length, slice_index, refl, sym, ap, ap₂, ◌∙◌, subst, arith}
-use Rattle.std.proofs.lemmas.List.{get_or_past, get_or-map, length-map}
+use Rattle.std.proofs.lemmas.List.{get_or-map}
 use Rattle.tsc_cover.specs.Cover.{truth}
-use Rattle.fault_secure.specs.Circuit.{Circuit, LatchOf, NodeOf, node, latch, no_latch, latch_net, node_net, pin_net, nets, bit}
+use Rattle.fault_secure.specs.Circuit.{Circuit, LatchOf, NodeOf, node, latch, no_latch, node_net, pin_net, nets, bit}
 use Rattle.fault_secure.specs.StuckAt.{NoFault}
 use Rattle.fault_secure.specs.Settle.{Settles, Ranks, Acyclic, read_values, node_value}
 use Rattle.fault_secure.specs.Run.{init_state, next_state}
@@ -12,7 +12,7 @@ use Rattle.fault_secure.proofs.GateLemmas.{read_values-no_fault}
 use Rattle.fault_secure.proofs.Places.{Place, place_of}
 use Rattle.fault_secure.proofs.Places.Place.{Input, Latch, Node, Beyond}
 use Rattle.register_laws.specs.RegisterPlan.{next_net}
-use Rattle.register_laws.specs.Twin.{Placing, renamed, HasCopy}
+use Rattle.register_laws.specs.Twin.{Placing, HasCopy}
 use Rattle.register_laws.proofs.Outside.{next_bit}
 
 -- the first state bit of a latch

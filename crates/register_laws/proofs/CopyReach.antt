@@ -1,5 +1,5 @@
 -- What reaches a copied net is a copy of what reaches the net.
-use Rattle.std.proofs.Common.{◌≡◌, ℕ, ◌+◌, ◌<◌, ◌≤◌, List, map, length, slice_index, refl, sym, ap, ◌∙◌, subst, arith}
+use Rattle.std.proofs.Common.{◌≡◌, ℕ, ◌<◌, map, length, slice_index, refl, sym, ap, ◌∙◌, subst, arith}
 use Rattle.std.proofs.lemmas.List.{get_or-map, length-map}
 use Rattle.fault_secure.specs.Circuit.{Circuit, NodeOf, node, no_latch, latch_net, node_net, pin_net, nets}
 use Rattle.fault_secure.specs.Closed.{IsClosed}
@@ -9,7 +9,7 @@ use Rattle.fault_secure.proofs.Places.Place.{Input, Latch, Node, Beyond}
 use Rattle.register_laws.specs.RegisterPlan.{next_net}
 use Rattle.register_laws.specs.RegisterStructure.{Reaches}
 use Rattle.register_laws.specs.RegisterStructure.Reaches.{own, through, across}
-use Rattle.register_laws.specs.Twin.{Placing, renamed, HasCopy}
+use Rattle.register_laws.specs.Twin.{Placing, HasCopy}
 
 -- a cell of S whose copy is this cell of N, and which reaches the net
 pub record IsReachedInSource (S : Circuit) (c : Placing) (cell net : ℕ) : Type 0 where

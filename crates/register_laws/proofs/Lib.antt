@@ -7,3 +7,4 @@ pub mod WatchParity
 pub mod PartRuns
 pub mod MappedRegisters
 pub mod SmallTwinCopies
+pub mod WrongTwinRuns

@@ -18,8 +18,8 @@ use Rattle.mapping_laws.proofs.MappedBits.{same_latches, same_init, mapped_bit, 
 use Rattle.mapping_laws.proofs.FailingBlocks.{working_from, runs_as_cell, runs_of_block, cell_is_cell}
 use Rattle.mapping_laws.proofs.OneRunBut.{one_run_but_block}
 use Rattle.register_laws.specs.RegisterPlan.{RegisterPlan, front_nets, front, IsOdd}
-use Rattle.register_laws.specs.RegisterSecure.{shown, IsCalm, NoWrongOutput}
-use Rattle.register_laws.specs.RegisterMapping.{IsRegisterAlarmSecure, IsRegisterBlockAlarmSecure, RegisterSecureIsAlarmSecure, RegisterAlarmSecureForFaults, moved_registers, MappedRegistersAreBlockAlarmSecure, MappedRegistersAreAlarmSecure}
+use Rattle.register_laws.specs.RegisterSecure.{IsCalm, NoWrongOutput}
+use Rattle.register_laws.specs.RegisterMapping.{IsRegisterBlockAlarmSecure, RegisterSecureIsAlarmSecure, RegisterAlarmSecureForFaults, moved_registers, MappedRegistersAreBlockAlarmSecure, MappedRegistersAreAlarmSecure}
 use Rattle.register_laws.proofs.CopyBits.{map_renamed}
 
 -- what is secure is alarm-secure
@@ -127,7 +127,7 @@ module _ (N G : Circuit) (at block : ℕ → ℕ) (m : IsMapped N G at block) (P
       let inside : step < length us = omega arith in
       let moved : (k : ℕ) → k < length us → at_step (map (as_mapped N at) us) k ≡ as_mapped N at (at_step us k) = λ k low. get_or-map (as_mapped N at) us k [] [] low in
       let alarm = h step within (λ right. wrong (same_outputs N G at block m (at_step us step) (sized step inside) P.plan
-          ∙ ap (outputs_in N P.plan) (sym (moved step inside)) ∙ right)) in
+      ∙ ap (outputs_in N P.plan) (sym (moved step inside)) ∙ right)) in
       let early : alarm.at < length us = (let k = alarm.in_time in omega arith) in
       record {
         at = alarm.at;

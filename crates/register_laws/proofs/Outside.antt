@@ -1,8 +1,7 @@
 -- What a failing cell doesn't reach keeps its bits, at every step.
-use Rattle.std.proofs.Common.{◌≡◌, ℕ, zero, suc, ◌<◌, ◌⊎◌, inl, inr, Bool, false, List, [], ◌∷◌, map, length, slice_index, refl, sym, ap, ◌∙◌, subst, arith}
-use Rattle.std.proofs.lemmas.Bool.{cases_lt}
+use Rattle.std.proofs.Common.{◌≡◌, ℕ, zero, suc, ◌<◌, ◌⊎◌, inl, inr, Bool, false, List, [], ◌∷◌, length, refl, sym, ap, ◌∙◌, subst, arith, IsTrue}
 use Rattle.std.proofs.lemmas.List.{get_or-map, length-map}
-use Rattle.fault_secure.specs.Circuit.{Circuit, LatchOf, node, latch, no_latch, latch_net, node_net, pin_net, nets, bit}
+use Rattle.fault_secure.specs.Circuit.{Circuit, LatchOf, no_latch, latch_net, node_net, pin_net, bit}
 use Rattle.fault_secure.specs.StuckAt.{NoFault, Stem}
 use Rattle.fault_secure.specs.Settle.{Settles, Acyclic}
 use Rattle.fault_secure.specs.Run.{next_state}
@@ -15,6 +14,7 @@ use Rattle.structure_laws.proofs.FailingCell.{fault_at, cells_settle_as_held_ste
 use Rattle.structure_laws.proofs.FirstErrors.{CleanFrom, next_clean}
 use Rattle.register_laws.specs.RegisterPlan.{next_net}
 use Rattle.register_laws.specs.RegisterStructure.{Reaches}
+use Rattle.register_laws.specs.RegisterLaws.{MarksHoldWhatReaches}
 use Rattle.register_laws.specs.RegisterStructure.Reaches.{own, through as by_node, across}
 
 -- the bit that a latch holds next is the one at its input
@@ -84,3 +84,11 @@ reach_depends N cell q _ is there (across net l h e reached) = elim (reach_depen
   | inl d ↦ inr (l, h, d)
   | inr d ↦ inr d
 ]
+
+-- marks that go back from each net to what drives it are on what reaches a marked net
+pub marks_hold_what_reaches : MarksHoldWhatReaches
+marks_hold_what_reaches N marks cell _ pins latches is (own net e) = subst (λ n. IsTrue (marks n)) e is
+marks_hold_what_reaches N marks cell _ pins latches is (by_node net j pin h e k reached) =
+    marks_hold_what_reaches N marks cell (pin_net N j pin) pins latches (pins j pin h k (subst (λ n. IsTrue (marks n)) e is)) reached
+marks_hold_what_reaches N marks cell _ pins latches is (across net l h e reached) =
+    marks_hold_what_reaches N marks cell (next_net N l) pins latches (latches l h (subst (λ n. IsTrue (marks n)) e is)) reached

@@ -3,9 +3,8 @@ use Rattle.std.proofs.Common.{◌≡◌, ℕ, ◌<◌, ◌≤◌, Bool, List, []
 use Rattle.std.proofs.lemmas.List.{get_or-map, length-map}
 use Rattle.fault_secure.specs.Circuit.{Circuit, bit}
 use Rattle.fault_secure.specs.StuckAt.{NoFault}
-use Rattle.fault_secure.specs.Settle.{Settles, Acyclic}
 use Rattle.fault_secure.specs.Run.{init_state, next_state, Runs, HasOneRun}
-use Rattle.fault_secure.specs.FaultSecure.{outputs_in, at_step, AlarmBy}
+use Rattle.fault_secure.specs.FaultSecure.{at_step}
 use Rattle.fault_secure.proofs.OneRun.{one_run}
 use Rattle.structure_laws.proofs.FirstErrors.{CleanFrom, clean_from}
 use Rattle.register_laws.specs.RegisterPlan.{RegisterPlan}

@@ -1,12 +1,11 @@
 -- Netlists of this structure are secure: where an output or a check is wrong, its group isn't odd, and the checker says so.
-use Rattle.std.proofs.Common.{◌≡◌, ℕ, zero, suc, ◌+◌, ◌<◌, ◌≤◌, ◌⊎◌, inl, inr, Bool, true, false, not, List, [], ◌∷◌, ◌++◌, map, take, length, slice_index, slice_index_or, All, Contains, refl, sym, ap, ◌∙◌, subst, arith, true≢false, length-append, length-take}
+use Rattle.std.proofs.Common.{◌≡◌, ℕ, zero, suc, ◌+◌, ◌<◌, inl, inr, Bool, true, false, not, List, [], ◌∷◌, take, length, slice_index_or, All, refl, sym, ap, ◌∙◌, subst, arith, true≢false, length-append, length-take}
 use Rattle.std.proofs.lemmas.Bool.{cases_lt}
 use Rattle.std.proofs.lemmas.List.{get_or-map, get_or_past, get_or_default, length-map}
 use Rattle.fault_secure.specs.Circuit.{Circuit, LatchOf, no_latch, node_net, bit}
 use Rattle.fault_secure.specs.StuckAt.{NoFault}
-use Rattle.fault_secure.specs.Settle.{Acyclic}
 use Rattle.fault_secure.specs.Run.{init_state, next_state, Runs}
-use Rattle.fault_secure.specs.CodePlan.{bits_at, members, next_nets, RailsAgree}
+use Rattle.fault_secure.specs.CodePlan.{bits_at, members}
 use Rattle.tsc_bits.specs.Counting.{odd}
 use Rattle.fault_secure.specs.FailingCell.{IsCell, RunsBut}
 use Rattle.fault_secure.specs.FaultSecure.{outputs_in, at_step}
@@ -17,8 +16,8 @@ use Rattle.structure_laws.proofs.Groups.{InGroup, parity_flips, place_in_group}
 use Rattle.structure_laws.proofs.ParityStep.{same_bit, DifferAt, same_or_differ}
 use Rattle.structure_laws.proofs.Words.{same_parts}
 use Rattle.register_laws.specs.RegisterPlan.{RegisterPlan, front_nets, front, IsOdd, next_net}
-use Rattle.register_laws.specs.RegisterStructure.{Reaches, at, front_net, IsLogic, RegisterCheckerSettles, HasRegisterStructure}
-use Rattle.register_laws.specs.RegisterSecure.{shown, FollowsNetwork, IsCalm, ErrorShows, IsHeard}
+use Rattle.register_laws.specs.RegisterStructure.{Reaches, front_net, IsLogic, RegisterCheckerSettles, HasRegisterStructure}
+use Rattle.register_laws.specs.RegisterSecure.{shown, IsCalm, ErrorShows, IsHeard}
 use Rattle.register_laws.specs.RegisterLaws.{RegistersAreSecure, RegistersAreFaultSecure}
 use Rattle.register_laws.proofs.Outside.{IsStep, steps_from, reach_depends}
 
@@ -56,25 +55,28 @@ module _ (N : Circuit) (P : RegisterPlan) (structure : HasRegisterStructure N P)
     is_logic : (q place : ℕ) → q < length N.nodes → cell ≡ node_net N q → place < length (front_nets N P) → Reaches N cell (front_net N P place) → IsLogic N P q
     is_logic q place there e within reached = elim (reach_depends N cell q (front_net N P place) e there reached) [
       | inl d ↦ record {
-          net = front_net N P place;
-          needed = inl (place, within, get_or_default (front_nets N P) place (front_net N P place) 0 within);
-          depends = d;
-        }
+        net = front_net N P place;
+        needed = inl (place, within, get_or_default (front_nets N P) place (front_net N P place) 0 within);
+        depends = d;
+      }
       | inr d ↦ record {
-          net = next_net N d.0;
-          needed = inr (inr (d.0, omega (arith, d.1, length-map N.latches (λ (k : LatchOf). k.reads)),
-              get_or-map (λ (k : LatchOf). k.reads) N.latches d.0 no_latch (next_net N d.0) d.1));
-          depends = d.2;
-        }
+        net = next_net N d.0;
+        needed = inr (inr (
+          d.0,
+          omega (arith, d.1, length-map N.latches (λ (k : LatchOf). k.reads)),
+          get_or-map (λ (k : LatchOf). k.reads) N.latches d.0 no_latch (next_net N d.0) d.1,
+        ));
+        depends = d.2;
+      }
     ]
 
     -- the group of a place that is wrong isn't odd
     wrong_not_odd : (d : DifferAt (front N P u) (front N P v)) → InGroup (members P.plan) d.place → IsOdd N P u → ⊥
     wrong_not_odd d g after =
         let flips : odd (bits_at (front N P u) (slice_index_or (members P.plan) g.group [])) ≡ not (odd (bits_at (front N P v) (slice_index_or (members P.plan) g.group []))) =
-            parity_flips (front N P u) (front N P v) (λ place. Reaches N cell (front_net N P place)) place_outside (slice_index_or (members P.plan) g.group [])
-            (λ a b l k one two. structure.apart cell g.group a b is l k one two)
-            g.index g.within (subst (λ place. bit (front N P u) place ≡ bit (front N P v) place → ⊥) (sym g.is) d.apart) in
+        parity_flips (front N P u) (front N P v) (λ place. Reaches N cell (front_net N P place)) place_outside (slice_index_or (members P.plan) g.group [])
+        (λ a b l k one two. structure.apart cell g.group a b is l k one two)
+        g.index g.within (subst (λ place. bit (front N P u) place ≡ bit (front N P v) place → ⊥) (sym g.is) d.apart) in
         let odd_v : odd (bits_at (front N P v) (slice_index_or (members P.plan) g.group [])) ≡ true = odd_before.groups g.group [] g.there in
         let odd_u : odd (bits_at (front N P u) (slice_index_or (members P.plan) g.group [])) ≡ true = after.groups g.group [] g.there in
         true≢false (sym odd_u ∙ flips ∙ ap not odd_v)

@@ -1,21 +1,21 @@
 -- The small twin is a twin.
-use Rattle.std.proofs.Common.{◌≡◌, ◌↔◌, ℕ, zero, suc, ◌<◌, ◌≤◌, ◌⊎◌, inl, inr, Bool, true, false, not, List, [], ◌∷◌, length, count_by, ◌==◌, slice_index, slice_index_or, Contains, refl, sym, ap, ap₂, ◌∙◌, subst, arith}
+use Rattle.std.proofs.Common.{◌≡◌, ◌↔◌, ℕ, zero, suc, ◌<◌, ◌≤◌, ◌⊎◌, inl, inr, Bool, true, false, List, [], ◌∷◌, length, count_by, ◌==◌, slice_index, slice_index_or, Contains, refl, sym, ◌∙◌, subst, arith}
 use Rattle.std.proofs.lemmas.Bool.{false≢true, true≢false}
 use Rattle.std.proofs.lemmas.List.Elements.{All-nil, All-cons, All-from_recursion}
 use Rattle.tsc_cover.specs.Cover.{truth}
-use Rattle.tsc_cover.specs.Gates.{not_cover, xor_cover}
+use Rattle.tsc_cover.specs.Gates.{not_cover}
 use Rattle.tsc_bits.specs.Counting.{odd, differ}
 use Rattle.fault_secure.specs.Circuit.{LatchOf, NodeOf, node, node_net, latch_net, latch, pin_net, bit}
 use Rattle.fault_secure.specs.StuckAt.{NoFault}
 use Rattle.fault_secure.specs.Closed.{IsClosed}
 use Rattle.fault_secure.specs.Settle.{Settles, Acyclic}
-use Rattle.fault_secure.specs.CodePlan.{bits_at, members, HasGroups, RailsAgree, concat_places, next_nets}
+use Rattle.fault_secure.specs.CodePlan.{bits_at, HasGroups, concat_places, next_nets}
 use Rattle.fault_secure.specs.Depends.{Depends, itself, through}
 use Rattle.fault_secure.specs.FailingCell.{IsCell}
 use Rattle.structure_laws.specs.Toggle.{straight, crossed}
 use Rattle.structure_laws.proofs.Each.{each, each_pin}
 use Rattle.register_laws.specs.RegisterPlan.{front_nets, front, IsOdd, next_net}
-use Rattle.register_laws.specs.RegisterStructure.{Reaches, at, IsNeeded, IsLogic, IsOfRegisterChecker, RegisterCheckerSettles, DecidesGroups}
+use Rattle.register_laws.specs.RegisterStructure.{Reaches, at, IsNeeded, IsOfRegisterChecker, DecidesGroups}
 use Rattle.register_laws.specs.RegisterStructure.Reaches.{own, through as by_node, across}
 use Rattle.register_laws.specs.Twin.{renamed, HasCopy}
 use Rattle.register_laws.specs.SmallTwin.{small_source, small_twin, small_register_plan, small_own, small_copy, SmallIsTwin, SmallTwinIsSecure, SmallTwinIsFaultSecure}
@@ -213,9 +213,10 @@ checker = record {
       settled.settles 4 (omega arith) (rail_is 4 (omega arith) (inl (itself 7 (omega arith) refl))) in
       let second : bit v 8 ≡ truth crossed (bit v 3 ∷ bit v 5 ∷ bit v 1 ∷ bit v 6 ∷ []) =
       settled.settles 5 (omega arith) (rail_is 5 (omega arith) (inr (itself 8 (omega arith) refl))) in
-      let both = decide (bit v 3) (bit v 5) (bit v 1) (bit v 6) in
-      (λ n. (let pairs = both.0 (λ e. n (first ∙ e ∙ sym second)) in odd_if v pairs.0 pairs.1),
-      λ o e. both.1 (o.groups 0 [] (omega arith), o.watched 0 [] (omega arith)) (sym first ∙ e ∙ second));
+      let both = decide (bit v 3) (bit v 5) (bit v 1) (bit v 6) in (
+        λ n. (let pairs = both.0 (λ e. n (first ∙ e ∙ sym second)) in odd_if v pairs.0 pairs.1),
+        λ o e. both.1 (o.groups 0 [] (omega arith), o.watched 0 [] (omega arith)) (sym first ∙ e ∙ second),
+      );
 }
 
 -- the small twin is a twin

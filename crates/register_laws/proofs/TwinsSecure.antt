@@ -1,5 +1,5 @@
 -- A twin has the structure that makes a netlist secure, and follows its source.
-use Rattle.std.proofs.Common.{◌≡◌, ℕ, zero, suc, ◌+◌, ◌-◌, ◌<◌, ◌≤◌, ◌⊎◌, inl, inr, Bool, List, [], ◌∷◌, ◌++◌, map, length, slice_index, slice_index_or, All, refl, sym, ap, ap₂, ◌∙◌, subst, arith}
+use Rattle.std.proofs.Common.{◌≡◌, ℕ, zero, suc, ◌+◌, ◌<◌, ◌≤◌, ◌⊎◌, inl, inr, Bool, List, [], ◌∷◌, ◌++◌, map, length, slice_index, slice_index_or, All, refl, sym, ap, ap₂, ◌∙◌, subst, arith}
 use Rattle.std.proofs.lemmas.Bool.{cases_lt}
 use Rattle.std.proofs.lemmas.List.{get_or-map, get_or_at, get_or_append_left, get_or-append_right, length_push, length-append, length-map}
 use Rattle.std.proofs.lemmas.List.Elements.{All-nil, All-cons}
@@ -10,7 +10,7 @@ use Rattle.fault_secure.specs.CodePlan.{members_from, members, concat_places}
 use Rattle.fault_secure.specs.FailingCell.{IsCell}
 use Rattle.fault_secure.specs.FaultSecure.{outputs_in}
 use Rattle.structure_laws.proofs.FirstErrors.{CleanFrom, clean_from}
-use Rattle.register_laws.specs.RegisterPlan.{RegisterPlan, front_nets, IsOdd}
+use Rattle.register_laws.specs.RegisterPlan.{RegisterPlan, IsOdd}
 use Rattle.register_laws.specs.RegisterStructure.{Reaches, at, front_net, AreApart}
 use Rattle.register_laws.specs.RegisterSecure.{shown, FollowsNetwork}
 use Rattle.register_laws.specs.Twin.{Placing, IsTwin, TwinsAreSecure, TwinsAreFaultSecure}
@@ -115,16 +115,16 @@ module _ (S N : Circuit) (P : RegisterPlan) (own copy : Placing) (t : IsTwin S N
   follow_from (x ∷ xs) (w ∷ ws) (v ∷ vs) s r first second source run =
       let inside : S.inputs ≤ N.inputs = omega (arith, t.same_inputs) in
       let own_bits : (net : ℕ) → net < nets S → bit v (own.net net) ≡ bit w net =
-          copy_bits S N own t.owns t.source_closed (bit x) (bit x) (bit s) (bit r) w v (λ i h. refl) inside first source.0 run.0 t.source_acyclic in
+      copy_bits S N own t.owns t.source_closed (bit x) (bit x) (bit s) (bit r) w v (λ i h. refl) inside first source.0 run.0 t.source_acyclic in
       let other_bits : (net : ℕ) → net < nets S → bit v (copy.net net) ≡ bit w net =
-          copy_bits S N copy t.copies t.source_closed (bit x) (bit x) (bit s) (bit r) w v (λ i h. refl) inside second source.0 run.0 t.source_acyclic in
+      copy_bits S N copy t.copies t.source_closed (bit x) (bit x) (bit s) (bit r) w v (λ i h. refl) inside second source.0 run.0 t.source_acyclic in
       let odd : IsOdd N P v = t.foretold (bit x) (bit r) v run.0 (λ n h. own_bits n h ∙ sym (other_bits n h)) in
       let outputs : outputs_in N P.plan v ≡ shown S w =
-          ap (map (bit v)) t.outputs ∙ map_renamed (bit v) (bit w) own.net S.outputs (λ i h. own_bits (slice_index S.outputs i) (t.source_closed.outputs i 0 h)) in
+      ap (map (bit v)) t.outputs ∙ map_renamed (bit v) (bit w) own.net S.outputs (λ i h. own_bits (slice_index S.outputs i) (t.source_closed.outputs i 0 h)) in
       let rest = follow_from xs ws vs (next_state S NoFault w) (next_state N NoFault v)
-          (copy_next S N own t.owns t.source_closed (bit x) (bit x) (bit s) (bit r) w v (λ i h. refl) inside first source.0 run.0 t.source_acyclic)
-          (copy_next S N copy t.copies t.source_closed (bit x) (bit x) (bit s) (bit r) w v (λ i h. refl) inside second source.0 run.0 t.source_acyclic)
-          source.1 run.1 in
+      (copy_next S N own t.owns t.source_closed (bit x) (bit x) (bit s) (bit r) w v (λ i h. refl) inside first source.0 run.0 t.source_acyclic)
+      (copy_next S N copy t.copies t.source_closed (bit x) (bit x) (bit s) (bit r) w v (λ i h. refl) inside second source.0 run.0 t.source_acyclic)
+      source.1 run.1 in
       (ap₂ ◌∷◌ outputs rest.0, All-cons (IsOdd N P) v vs odd rest.1)
 
   follows : FollowsNetwork S N P

@@ -1,11 +1,9 @@
 -- The parity of the own registers beside that of their copies.
-use Rattle.std.proofs.Common.{◌≡◌, ℕ, ◌⊎◌, inl, inr, Bool, true, false, not, List, [], ◌∷◌, ◌++◌, map, IsTrue, refl, sym, ap, ◌∙◌, subst, true≢false}
-use Rattle.std.proofs.lemmas.List.{get_or_default}
+use Rattle.std.proofs.Common.{◌≡◌, ℕ, inl, inr, Bool, true, false, not, List, [], ◌∷◌, ◌++◌, IsTrue, refl, sym, ap, ◌∙◌, subst, true≢false}
 use Rattle.tsc_bits.specs.Counting.{odd, differ}
 use Rattle.fault_secure.specs.Circuit.{Circuit, latch_net, bit}
-use Rattle.fault_secure.specs.CodePlan.{bits_at, RailsAgree}
+use Rattle.fault_secure.specs.CodePlan.{bits_at}
 use Rattle.structure_laws.proofs.ParityStep.{same_bit}
-use Rattle.register_laws.specs.RegisterPlan.{RegisterPlan}
 use Rattle.register_laws.specs.Twin.{Placing}
 use Rattle.register_laws.specs.Watch.{register_nets, differences, WatchCounts, WatchIsHeard}
 

@@ -7,3 +7,4 @@ pub mod Watch
 pub mod Part
 pub mod RegisterMapping
 pub mod SmallTwin
+pub mod WrongTwins

@@ -1,5 +1,5 @@
 -- A source without some of its registers and covers, on which no output depends, answers as the source does: the statements of the laws.
-use Rattle.std.specs.Prelude.{◌≡◌, ℕ, Bool, List, map}
+use Rattle.std.specs.Prelude.{◌≡◌, Bool, List, map}
 use Rattle.fault_secure.specs.Circuit.{Circuit}
 use Rattle.fault_secure.specs.StuckAt.{NoFault}
 use Rattle.fault_secure.specs.Closed.{IsClosed}
