@@ -8,3 +8,4 @@ pub mod PartRuns
 pub mod MappedRegisters
 pub mod SmallTwinCopies
 pub mod WrongTwinRuns
+pub mod NetworkSteps

@@ -8,3 +8,4 @@ pub mod Part
 pub mod RegisterMapping
 pub mod SmallTwin
 pub mod WrongTwins
+pub mod Networks
