@@ -47,12 +47,12 @@ pub record RegisterCheckerSettles (N : Circuit) (P : RegisterPlan) (v : List Boo
 pub record DecidesGroups (N : Circuit) (P : RegisterPlan) : Type 0 where
   pub decides : (v : List Bool) → RegisterCheckerSettles N P v → (RailsAgree P.plan v → ⊥) ↔ IsOdd N P v
 
--- no cell reaches two members of a group of outputs and its check. A cell gives its net alone: an input may reach any of them
+-- no cell reaches two members of a group of outputs and its check. An input is no cell, and may reach any of them
 abbrev pub AreApart : Circuit → RegisterPlan → Type 0
 AreApart N P = (cell group a b : ℕ) → IsCell N cell → a < b → b < length (slice_index_or (members P.plan) group [])
     → Reaches N cell (front_net N P (at (members P.plan) group a)) → Reaches N cell (front_net N P (at (members P.plan) group b)) → ⊥
 
--- each output stands in one group, groups are apart through registers, and the checker decides
+-- each output stands in one group, there is no ring, groups are apart through registers, and the checker decides
 pub record HasRegisterStructure (N : Circuit) (P : RegisterPlan) : Type 0 where
   pub groups : HasGroups P.plan
   pub acyclic : Acyclic N

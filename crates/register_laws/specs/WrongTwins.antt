@@ -69,7 +69,8 @@ leaning_netlist = record {
   outputs = 1 ∷ 5 ∷ 6 ∷ [];
 }
 
--- a copied register that reads an own net doesn't do: node 3 makes both registers wrong
+-- a copied register that reads an own net doesn't do: node 3 makes both registers wrong. A twin has no such node, since no own cell of it
+-- reaches a check
 abbrev pub LeaningIsSilent : Type 0
 LeaningIsSilent = IsRegisterAlarmSecure single_source leaning_netlist (plan_of_one 1 (0 ∷ []) 4 5 6) → ⊥
 
