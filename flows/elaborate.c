@@ -1,14 +1,14 @@
-// Makes of a refutation in DRAT one in LRAT, for flows/prove, which compiles it.
-//
-// elaborate FORMULA REFUTATION > LRAT
-//
-// FORMULA is DIMACS, REFUTATION is DRAT as text. Forward it adds the lemmas one after another and propagates units, until a clause is
-// false. Backward it takes them away again, and looks of each that is wanted for clauses from which it follows by unit propagation, first
-// among those that are wanted already. What is wanted it then writes, with these clauses as hints, and a deletion after the last use of
-// each clause. A literal that is known without an assumption becomes a lemma of one literal, so that no hints repeat where it comes from.
-// Deletions of clauses that gave such a literal are passed over. A lemma that doesn't follow so (a RAT step) ends it with status 1.
-//
-// Nothing of it is trusted: what it writes has to be checked.
+/* Makes of a refutation in DRAT one in LRAT, for flows/prove, which compiles it.
+
+   elaborate FORMULA REFUTATION > LRAT
+
+   FORMULA is DIMACS, REFUTATION is DRAT as text. Forward it adds the lemmas one after another and propagates units, until a clause is
+   false. Backward it takes them away again, and looks of each that is wanted for clauses from which it follows by unit propagation, first
+   among those that are wanted already. What is wanted it then writes, with these clauses as hints, and a deletion after the last use of
+   each clause. A literal that is known without an assumption becomes a lemma of one literal, so that no hints repeat where it comes from.
+   Deletions of clauses that gave such a literal are passed over. A lemma that doesn't follow so (a RAT step) ends it with status 1.
+
+   Nothing of it is trusted: what it writes has to be checked. */
 #include <limits.h>
 #include <stdio.h>
 #include <stdlib.h>

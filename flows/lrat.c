@@ -1,15 +1,15 @@
-// Checks a refutation in LRAT of a formula in DIMACS, for flows/prove, which compiles it.
-//
-// lrat FORMULA REFUTATION
-//
-// It prints `yes` with status 0 where the refutation holds, else one line with status 1. A line of a refutation adds a clause, `NUMBER
-// LITERAL .. 0 HINT .. 0`, or deletes some, `NUMBER d NUMBER .. 0`; lines that begin with c are passed over, and so is what follows the
-// first empty clause. Numbers of additions rise. The hints of an addition are numbers of clauses: where the literals of the new clause are
-// false each of them has to be true, or leave one literal, which is true then, until one is false. `line N: refutation shape`, `line N: no
-// clause` (a hint or a deletion of what isn't there), `line N: hint` (one that leaves two literals, a negative one, or none that is false at
-// the end), `no refutation` and `unfinished` are what it says else. RAT steps are refused.
-//
-// It is straight C that nothing is proved of.
+/* Checks a refutation in LRAT of a formula in DIMACS, for flows/prove, which compiles it.
+
+   lrat FORMULA REFUTATION
+
+   It prints `yes` with status 0 where the refutation holds, else one line with status 1. A line of a refutation adds a clause, `NUMBER
+   LITERAL .. 0 HINT .. 0`, or deletes some, `NUMBER d NUMBER .. 0`; lines that begin with c are passed over, and so is what follows the
+   first empty clause. Numbers of additions rise. The hints of an addition are numbers of clauses: where the literals of the new clause are
+   false each of them has to be true, or leave one literal, which is true then, until one is false. `line N: refutation shape`, `line N: no
+   clause` (a hint or a deletion of what isn't there), `line N: hint` (one that leaves two literals, a negative one, or none that is false at
+   the end), `no refutation` and `unfinished` are what it says else. RAT steps are refused.
+
+   It is straight C that nothing is proved of. */
 #include <stdio.h>
 #include <stdlib.h>
 #include <string.h>

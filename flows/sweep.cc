@@ -1,12 +1,12 @@
-// Finds nets that are equal without a fault, for flows/prove, which compiles it with the library of cadical.
-//
-// sweep QUESTION REFUTATION LARGER [CONFLICTS]
-//
-// QUESTION is what flows/question writes. Its part without a fault is tried at 1,024 drawn inputs. From the inputs to the outputs, of each
-// net that had the same bit as an earlier one at all of them, or the other bit, or always one bit, the solver is asked whether that is so
-// at every input, with at most CONFLICTS conflicts (100) a question. What it finds is written into REFUTATION, as DRAT in text, and each
-// equality is a lemma there; LARGER is the question with the equalities as clauses more, which is easier to refute. A refutation of LARGER
-// behind REFUTATION without its deletions refutes QUESTION. Nothing of it is trusted.
+/* Finds nets that are equal without a fault, for flows/prove, which compiles it with the library of cadical.
+
+   sweep QUESTION REFUTATION LARGER [CONFLICTS]
+
+   QUESTION is what flows/question writes. Its part without a fault is tried at 1,024 drawn inputs. From the inputs to the outputs, of each
+   net that had the same bit as an earlier one at all of them, or the other bit, or always one bit, the solver is asked whether that is so
+   at every input, with at most CONFLICTS conflicts (100) a question. What it finds is written into REFUTATION, as DRAT in text, and each
+   equality is a lemma there; LARGER is the question with the equalities as clauses more, which is easier to refute. A refutation of LARGER
+   behind REFUTATION without its deletions refutes QUESTION. Nothing of it is trusted. */
 #include <algorithm>
 #include <cadical.hpp>
 #include <cstdint>
