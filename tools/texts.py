@@ -128,10 +128,13 @@ BINARIES = (
     (b"\xfe\xff", "UTF-16 (iconv -f UTF-16 -t ASCII//TRANSLIT)"),
     (b"\xef\xbb\xbf", "UTF-8 with a byte order mark before the first letter (sed -i '1s/^\\xef\\xbb\\xbf//' FILE)"),
 )
-# Commands of Yosys that bench/mistakes runs: modules to one network, a machine to KISS2, a machine's logic without its registers.
+# Commands of Yosys and ABC that bench/mistakes runs: modules to one network, a machine to KISS2, and the logic of a module without its
+# registers, for which Yosys' and then ABC's commands stand; what is to be known of that logic.
 FLATTEN = "synth -flatten -top TOP; abc -g AND,OR,XOR; opt_clean -purge; write_blif FILE"
 MACHINE = "proc; opt -nodffe -nosdff; fsm -nomap; fsm_export -o FILE"
-EVERTED = "async2sync; dfflegalize -cell $_DFF_P_ 01; expose -evert-dff; abc -g AND,OR,XOR; opt_clean -purge; write_blif FILE"
+LOGIC = "async2sync; dfflegalize -cell $_DFF_P_ 01; abc -g AND,OR,XOR; opt_clean -purge; write_blif FILE"
+COMB = "read_blif FILE; comb; write_blif FILE"
+UNPROTECTED = "what a register holds is not protected then: a register that fails gives wrong outputs without an alarm"
 # What other languages begin with.
 LANGUAGES = (
     (
