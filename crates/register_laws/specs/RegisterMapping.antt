@@ -13,7 +13,8 @@ use Rattle.register_laws.specs.RegisterSecure.{shown, IsCalm, NoWrongOutput, IsR
 use Rattle.register_laws.specs.Part.{IsPart}
 use Rattle.register_laws.specs.Twin.{Placing}
 
--- as secure against any one failing cell, except for what is asked of the first wrong output or check: no wrong output comes before its alarm
+-- as secure against any one failing cell, except for what is asked of each wrong output or check at its own step: no wrong output comes
+-- before its alarm
 pub record IsRegisterAlarmSecure (S N : Circuit) (P : RegisterPlan) : Type 0 where
   pub source_runs : (m : List Bool) (xs : List (List Bool)) → length m ≡ length xs → HasOneRun S NoFault m xs
   pub one_run : (w : List Bool) (xs : List (List Bool)) → length w ≡ length xs → HasOneRun N NoFault w xs

@@ -1,5 +1,5 @@
--- A small twin with a watch, which meets every definition: one register, whose next value is the exclusive or of it and the input, and which is
--- the output. It guards against definitions that nothing meets.
+-- A small twin with a watch, which meets `IsTwin`: one register, whose next value is the exclusive or of it and the input, and that value is the
+-- output. It guards against a definition that nothing meets.
 use Rattle.std.specs.Prelude.{◌+◌, true, [], ◌∷◌, slice_index}
 use Rattle.tsc_cover.specs.Gates.{not_cover, xor_cover}
 use Rattle.fault_secure.specs.declared.code.Code.TheVariants.{Parity}

@@ -15,11 +15,11 @@ register_nets N c registers = map (λ l. latch_net N (c.latch_at l)) registers
 abbrev pub differences : Circuit → Placing → Placing → List ℕ → List Bool → List Bool
 differences N own copy registers v = map (λ l. differ (bit v (latch_net N (own.latch_at l))) (bit v (latch_net N (copy.latch_at l)))) registers
 
--- the check of the watch settles: its net is 1 exactly where an even number of the copied registers is 1
+-- the bit of the check of the watch is as its chain says: 1 exactly where an even number of the copied registers is 1
 abbrev pub WatchSettles : Circuit → Placing → List ℕ → ℕ → List Bool → Type 0
 WatchSettles N copy registers check v = bit v check ≡ not (odd (bits_at v (register_nets N copy registers)))
 
--- where the check of the watch settles, the own registers with this check are odd exactly where an even number of registers differs
+-- where this holds, the own registers with this check are odd exactly where an even number of registers differs
 abbrev pub WatchCounts : Type 0
 WatchCounts = (N : Circuit) (own copy : Placing) (registers : List ℕ) (check : ℕ) (v : List Bool) → WatchSettles N copy registers check v
     → odd (bits_at v (register_nets N own registers ++ check ∷ [])) ≡ not (odd (differences N own copy registers v))

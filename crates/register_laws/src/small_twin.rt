@@ -1,4 +1,4 @@
-//! A small twin that meets every definition.
+//! A small netlist that meets `IsTwin`.
 ghost use Rattle.register_laws.specs.SmallTwin.{SmallIsTwin, SmallTwinIsFaultSecure, SmallTwinIsSecure};
 
 /// A netlist of two registers and six nodes, with a watch, is a twin, and so secure against any one failing cell and each listed fault.
