@@ -35,9 +35,16 @@ register_secure_is_alarm_secure S N P secure = record {
 
 -- a listed fault is among what one failing cell does
 pub register_alarm_secure_for_faults : RegisterAlarmSecureForFaults
-register_alarm_secure_for_faults S N P f h m w xs ws vs us secure listed source run held =
-    let failing = listed_faults_are_failing_cells N f h xs us listed held in
-    secure.alarmed failing.cell m w xs ws vs us failing.is_cell source run failing.runs
+register_alarm_secure_for_faults S N P acyclic secure = record {
+  source_runs = secure.source_runs;
+  one_run = secure.one_run;
+  one_run_under = λ f h xs listed sized. one_run N f h xs acyclic sized;
+  follows = secure.follows;
+  quiet = secure.quiet;
+  alarmed = λ f h m w xs ws vs us listed source run held.
+      let failing = listed_faults_are_failing_cells N f h xs us listed held in
+      secure.alarmed failing.cell m w xs ws vs us failing.is_cell source run failing.runs;
+}
 
 -- a run without a fault, with no fault marked
 pub marked : (N : Circuit) (s : List Bool) (xs vs : List (List Bool)) → CleanFrom N s xs vs → RunsFrom N NoFault s (map (λ _. false) xs) xs vs

@@ -25,7 +25,18 @@ pub record IsRegisterAlarmSecure (S N : Circuit) (P : RegisterPlan) : Type 0 whe
   pub alarmed : (cell : ℕ) (m w : List Bool) (xs ws vs us : List (List Bool)) → IsCell N cell
       → Runs S NoFault m xs ws → Runs N NoFault w xs vs → RunsBut N cell xs us → NoWrongOutput S N P xs ws us
 
--- the same of a mapped netlist, against any gates of one block that fail at once, or one failing latch
+-- the same with one listed fault, which the marks h have present at any set of steps: with it too there is exactly one run
+pub record IsRegisterAlarmFaultSecure (S N : Circuit) (P : RegisterPlan) : Type 0 where
+  pub source_runs : (m : List Bool) (xs : List (List Bool)) → length m ≡ length xs → HasOneRun S NoFault m xs
+  pub one_run : (w : List Bool) (xs : List (List Bool)) → length w ≡ length xs → HasOneRun N NoFault w xs
+  pub one_run_under : (f : StuckAt) (h : List Bool) (xs : List (List Bool)) → IsTrue (is_listed N f) → length h ≡ length xs → HasOneRun N f h xs
+  pub follows : (m w : List Bool) (xs ws vs : List (List Bool)) → Runs S NoFault m xs ws → Runs N NoFault w xs vs
+      → map (outputs_in N P.plan) vs ≡ map (shown S) ws
+  pub quiet : (m w : List Bool) (xs ws vs : List (List Bool)) → Runs S NoFault m xs ws → Runs N NoFault w xs vs → All (IsCalm N P) vs
+  pub alarmed : (f : StuckAt) (h m w : List Bool) (xs ws vs us : List (List Bool)) → IsTrue (is_listed N f)
+      → Runs S NoFault m xs ws → Runs N NoFault w xs vs → Runs N f h xs us → NoWrongOutput S N P xs ws us
+
+-- alarm-secure of a mapped netlist, against any gates of one block that fail at once, or one failing latch
 pub record IsRegisterBlockAlarmSecure (S N G : Circuit) (block : ℕ → ℕ) (P : RegisterPlan) : Type 0 where
   pub blocks : (g : ℕ) → g < length G.nodes → block g < length N.nodes
   pub source_runs : (m : List Bool) (xs : List (List Bool)) → length m ≡ length xs → HasOneRun S NoFault m xs
@@ -41,11 +52,9 @@ pub record IsRegisterBlockAlarmSecure (S N G : Circuit) (block : ℕ → ℕ) (P
 abbrev pub RegisterSecureIsAlarmSecure : Type 0
 RegisterSecureIsAlarmSecure = (S N : Circuit) (P : RegisterPlan) → IsRegisterSecure S N P → IsRegisterAlarmSecure S N P
 
--- no wrong output of what is alarm-secure comes before its alarm with a listed fault either, present at any steps
+-- what is alarm-secure, without a ring, is so with each listed fault, present at any steps
 abbrev pub RegisterAlarmSecureForFaults : Type 0
-RegisterAlarmSecureForFaults = (S N : Circuit) (P : RegisterPlan) (f : StuckAt) (h m w : List Bool) (xs ws vs us : List (List Bool))
-    → IsRegisterAlarmSecure S N P → IsTrue (is_listed N f)
-    → Runs S NoFault m xs ws → Runs N NoFault w xs vs → Runs N f h xs us → NoWrongOutput S N P xs ws us
+RegisterAlarmSecureForFaults = (S N : Circuit) (P : RegisterPlan) → Acyclic N → IsRegisterAlarmSecure S N P → IsRegisterAlarmFaultSecure S N P
 
 -- what is alarm-secure for a part of a source is so for the whole
 abbrev pub AlarmSecureForTheWhole : Type 0

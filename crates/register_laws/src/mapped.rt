@@ -6,7 +6,8 @@ pub fn register_secure_is_alarm_secure()
     ensures secure { RegisterSecureIsAlarmSecure }
 {}
 
-/// With a listed stuck-at fault, present at any steps, no wrong output of what is alarm-secure comes before its alarm.
+/// What is alarm-secure, without a ring, is so with each listed stuck-at fault, present at any steps: there is exactly one run, in which no
+/// wrong output comes before its alarm.
 pub fn alarm_secure_registers_show_faults()
     ensures alarmed { RegisterAlarmSecureForFaults }
 {}
