@@ -74,3 +74,8 @@ MappedRegistersAreBlockAlarmSecure = (S N G : Circuit) (at block : ℕ → ℕ) 
 abbrev pub MappedRegistersAreAlarmSecure : Type 0
 MappedRegistersAreAlarmSecure = (S N G : Circuit) (at block : ℕ → ℕ) (P : RegisterPlan) → IsMapped N G at block → Acyclic G
     → IsRegisterAlarmSecure S N P → IsRegisterAlarmSecure S G (moved_registers at P)
+
+-- and what is secure, so that each wrong output or check shows at its own step, is so mapped
+abbrev pub MappedRegistersAreSecure : Type 0
+MappedRegistersAreSecure = (S N G : Circuit) (at block : ℕ → ℕ) (P : RegisterPlan) → IsMapped N G at block → Acyclic G
+    → IsRegisterSecure S N P → IsRegisterSecure S G (moved_registers at P)

@@ -1,5 +1,5 @@
 //! Alarm-secure: what is asked of outputs and alarm alone, which mapping cover by cover keeps.
-ghost use Rattle.register_laws.specs.RegisterMapping.{MappedRegistersAreAlarmSecure, MappedRegistersAreBlockAlarmSecure, RegisterAlarmSecureForFaults, RegisterSecureIsAlarmSecure};
+ghost use Rattle.register_laws.specs.RegisterMapping.{MappedRegistersAreAlarmSecure, MappedRegistersAreBlockAlarmSecure, MappedRegistersAreSecure, RegisterAlarmSecureForFaults, RegisterSecureIsAlarmSecure};
 
 /// What is secure against any one failing cell is alarm-secure: no wrong output comes before its alarm.
 pub fn register_secure_is_alarm_secure()
@@ -21,4 +21,10 @@ pub fn mapped_registers_are_block_alarm_secure()
 /// It is alarm-secure against any one failing gate or latch of its own.
 pub fn mapped_registers_are_alarm_secure()
     ensures secure { MappedRegistersAreAlarmSecure }
+{}
+
+/// A secure netlist with registers, mapped cover by cover without a ring, is secure against any one failing gate or latch of its own: each
+/// wrong output or check shows at its own step there too.
+pub fn mapped_registers_are_secure()
+    ensures secure { MappedRegistersAreSecure }
 {}
