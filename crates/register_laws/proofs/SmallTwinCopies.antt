@@ -1,5 +1,5 @@
 -- The small twin is a twin.
-use Rattle.std.proofs.Common.{◌≡◌, ◌↔◌, ℕ, zero, suc, ◌<◌, ◌≤◌, ◌⊎◌, inl, inr, Bool, true, false, List, [], ◌∷◌, length, count_by, ◌==◌, slice_index, slice_index_or, Contains, refl, sym, ◌∙◌, subst, arith}
+use Rattle.std.proofs.Common.{◌≡◌, ◌↔◌, ℕ, zero, suc, ◌<◌, ◌≤◌, ◌⊎◌, inl, inr, Bool, true, false, not, List, [], ◌∷◌, length, count_by, ◌==◌, slice_index, slice_index_or, Contains, refl, sym, ◌∙◌, subst, arith}
 use Rattle.std.proofs.lemmas.Bool.{false≢true, true≢false}
 use Rattle.std.proofs.lemmas.List.Elements.{All-nil, All-cons, All-from_recursion}
 use Rattle.tsc_cover.specs.Cover.{truth}
@@ -18,7 +18,7 @@ use Rattle.register_laws.specs.RegisterPlan.{front_nets, front, IsOdd, next_net}
 use Rattle.register_laws.specs.RegisterStructure.{Reaches, at, IsNeeded, IsOfRegisterChecker, DecidesGroups}
 use Rattle.register_laws.specs.RegisterStructure.Reaches.{own, through as by_node, across}
 use Rattle.register_laws.specs.Twin.{renamed, HasCopy}
-use Rattle.register_laws.specs.SmallTwin.{small_source, small_twin, small_register_plan, small_own, small_copy, SmallIsTwin, SmallTwinIsSecure, SmallTwinIsFaultSecure}
+use Rattle.register_laws.specs.SmallTwin.{small_source, small_twin, small_register_plan, small_own, small_copy, SmallIsTwin, SmallIsWatched, SmallTwinIsSecure, SmallTwinIsFaultSecure}
 use Rattle.register_laws.proofs.TwinsSecure.{twins_are_secure, twins_are_fault_secure}
 
 source_closed : IsClosed small_source
@@ -235,6 +235,22 @@ small_is_twin = record {
   checks_apart = checks_apart;
   foretold = foretold;
   checker = checker;
+}
+
+-- ---- the watch
+
+negation : (b c : Bool) → c ≡ truth not_cover (b ∷ []) → c ≡ not (differ b false)
+negation true c e = e
+negation false c e = e
+
+-- net 6 watches the register
+pub small_is_watched : SmallIsWatched
+small_is_watched = record {
+  listed = (0, omega arith, refl);
+  within = All-cons (λ l. l < 1) 0 [] (omega arith) (All-nil (λ l. l < 1));
+  once = each 1 (λ l. count_by (λ other. l == other) (0 ∷ []) ≡ 1) (refl, tt);
+  apart = λ l k h g e. omega arith;
+  follows = λ v drivers. negation (bit v 2) (bit v 6) (drivers.settles 3 (omega arith) (itself 6 (omega arith) refl));
 }
 
 pub small_twin_is_secure : SmallTwinIsSecure

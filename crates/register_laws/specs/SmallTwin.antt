@@ -1,5 +1,5 @@
--- A small twin with a watch, which meets `IsTwin`: one register, whose next value is the exclusive or of it and the input, and that value is the
--- output. It guards against a definition that nothing meets.
+-- A small twin with a watch, which meets `IsTwin` and `IsWatchOf`: one register, whose next value is the exclusive or of it and the input, and that value is the
+-- output. It guards against definitions that nothing meets.
 use Rattle.std.specs.Prelude.{◌+◌, true, [], ◌∷◌, slice_index}
 use Rattle.tsc_cover.specs.Gates.{not_cover, xor_cover}
 use Rattle.fault_secure.specs.declared.code.Code.TheVariants.{Parity}
@@ -8,6 +8,7 @@ use Rattle.structure_laws.specs.Toggle.{straight, crossed}
 use Rattle.register_laws.specs.RegisterPlan.{RegisterPlan}
 use Rattle.register_laws.specs.RegisterSecure.{IsRegisterSecure, IsRegisterFaultSecure}
 use Rattle.register_laws.specs.Twin.{Placing, IsTwin}
+use Rattle.register_laws.specs.Watch.{IsWatchOf}
 
 -- the nets: 0 the input, 1 the register, which is 1 first, 2 its next value, which is shown
 abbrev pub small_source : Circuit
@@ -53,7 +54,11 @@ small_copy = record { net = λ n. slice_index (0 ∷ 2 ∷ 4 ∷ []) n; latch_at
 abbrev pub SmallIsTwin : Type 0
 SmallIsTwin = IsTwin small_source small_twin small_register_plan small_own small_copy
 
--- and so secure against any one failing cell
+-- net 6 watches its register
+abbrev pub SmallIsWatched : Type 0
+SmallIsWatched = IsWatchOf small_source small_twin small_register_plan small_own small_copy (0 ∷ []) 6
+
+-- it is secure against any one failing cell
 abbrev pub SmallTwinIsSecure : Type 0
 SmallTwinIsSecure = IsRegisterSecure small_source small_twin small_register_plan
 

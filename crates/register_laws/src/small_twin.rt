@@ -1,9 +1,11 @@
-//! A small netlist that meets `IsTwin`.
-ghost use Rattle.register_laws.specs.SmallTwin.{SmallIsTwin, SmallTwinIsFaultSecure, SmallTwinIsSecure};
+//! A small netlist that meets `IsTwin` and `IsWatchOf`.
+ghost use Rattle.register_laws.specs.SmallTwin.{SmallIsTwin, SmallIsWatched, SmallTwinIsFaultSecure, SmallTwinIsSecure};
 
-/// A netlist of two registers and six nodes, with a watch, is a twin, and so secure against any one failing cell and each listed fault.
+/// A netlist of two registers and six nodes is a twin, and so secure against any one failing cell and each listed fault. Its watch meets
+/// `IsWatchOf`.
 pub fn the_small_twin_is_secure()
     ensures twin { SmallIsTwin }
+    ensures watched { SmallIsWatched }
     ensures cells { SmallTwinIsSecure }
     ensures faults { SmallTwinIsFaultSecure }
 {}
