@@ -182,6 +182,8 @@ module _ (N G : Circuit) (at block : ℕ → ℕ) (m : IsMapped N G at block) (P
 
 pub mapped_registers_are_block_alarm_secure : MappedRegistersAreBlockAlarmSecure
 mapped_registers_are_block_alarm_secure S N G at block P m acyclic secure = record {
+  inputs = m.inputs;
+  latches = same_latches N G at block m;
   blocks = m.blocks;
   source_runs = secure.source_runs;
   one_run = λ w xs sized. one_run G NoFault w xs acyclic sized;

@@ -8,7 +8,7 @@ use Rattle.tsc_bits.specs.Counting.{odd, differ}
 use Rattle.fault_secure.specs.Circuit.{LatchOf, NodeOf, node, node_net, latch_net, latch, pin_net, bit}
 use Rattle.fault_secure.specs.StuckAt.{NoFault}
 use Rattle.fault_secure.specs.Closed.{IsClosed}
-use Rattle.fault_secure.specs.Settle.{Settles, Acyclic}
+use Rattle.fault_secure.specs.Settle.{Settles, Acyclic, node_value}
 use Rattle.fault_secure.specs.CodePlan.{bits_at, HasGroups, concat_places, next_nets}
 use Rattle.fault_secure.specs.Depends.{Depends, itself, through}
 use Rattle.fault_secure.specs.FailingCell.{IsCell}
@@ -18,7 +18,7 @@ use Rattle.register_laws.specs.RegisterPlan.{front_nets, front, IsOdd, next_net}
 use Rattle.register_laws.specs.RegisterStructure.{Reaches, at, IsNeeded, IsOfRegisterChecker, DecidesGroups}
 use Rattle.register_laws.specs.RegisterStructure.Reaches.{own, through as by_node, across}
 use Rattle.register_laws.specs.Twin.{renamed, HasCopy}
-use Rattle.register_laws.specs.SmallTwin.{small_source, small_twin, small_register_plan, small_own, small_copy, SmallIsTwin, SmallIsWatched, SmallTwinIsSecure, SmallTwinIsFaultSecure}
+use Rattle.register_laws.specs.SmallTwin.{small_source, small_twin, small_register_plan, small_own, small_copy, misread_twin, SmallIsTwin, SmallIsWatched, MisreadIsUnwatched, SmallTwinIsSecure, SmallTwinIsFaultSecure}
 use Rattle.register_laws.proofs.TwinsSecure.{twins_are_secure, twins_are_fault_secure}
 
 source_closed : IsClosed small_source
@@ -258,3 +258,15 @@ small_twin_is_secure = twins_are_secure small_source small_twin small_register_p
 
 pub small_twin_is_fault_secure : SmallTwinIsFaultSecure
 small_twin_is_fault_secure = twins_are_fault_secure small_source small_twin small_register_plan small_own small_copy small_is_twin
+
+-- ---- a check that reads the own register
+
+-- the register is 1 and its copy 0, and every node settles
+abbrev misread_bits : List Bool
+misread_bits = false ∷ true ∷ false ∷ true ∷ false ∷ true ∷ false ∷ truth straight (true ∷ true ∷ true ∷ false ∷ []) ∷ truth crossed (true ∷ true ∷ true ∷ false ∷ []) ∷ []
+
+misread_settles : (q : ℕ) → q < 6 → bit misread_bits (node_net misread_twin q) ≡ node_value misread_twin NoFault misread_bits q
+misread_settles = each 6 (λ q. bit misread_bits (node_net misread_twin q) ≡ node_value misread_twin NoFault misread_bits q) (refl, (refl, (refl, (refl, (refl, (refl, tt))))))
+
+pub misread_is_unwatched : MisreadIsUnwatched
+misread_is_unwatched watch = false≢true (watch.follows misread_bits (record { settles = λ q h d. misread_settles q h }))

@@ -36,8 +36,10 @@ pub record IsRegisterAlarmFaultSecure (S N : Circuit) (P : RegisterPlan) : Type 
   pub alarmed : (f : StuckAt) (h m w : List Bool) (xs ws vs us : List (List Bool)) → IsTrue (is_listed N f)
       → Runs S NoFault m xs ws → Runs N NoFault w xs vs → Runs N f h xs us → NoWrongOutput S N P xs ws us
 
--- alarm-secure of a mapped netlist, against any gates of one block that fail at once, or one failing latch
+-- alarm-secure of a mapped netlist, with as many inputs and latches as before, against any gates of one block that fail at once, or one failing latch
 pub record IsRegisterBlockAlarmSecure (S N G : Circuit) (block : ℕ → ℕ) (P : RegisterPlan) : Type 0 where
+  pub inputs : G.inputs ≡ N.inputs
+  pub latches : length G.latches ≡ length N.latches
   pub blocks : (g : ℕ) → g < length G.nodes → block g < length N.nodes
   pub source_runs : (m : List Bool) (xs : List (List Bool)) → length m ≡ length xs → HasOneRun S NoFault m xs
   pub one_run : (w : List Bool) (xs : List (List Bool)) → length w ≡ length xs → HasOneRun G NoFault w xs

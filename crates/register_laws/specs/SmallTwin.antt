@@ -65,3 +65,14 @@ SmallTwinIsSecure = IsRegisterSecure small_source small_twin small_register_plan
 -- and against each listed fault
 abbrev pub SmallTwinIsFaultSecure : Type 0
 SmallTwinIsFaultSecure = IsRegisterFaultSecure small_source small_twin small_register_plan
+
+-- the small twin, except that the check of the watch, net 6, is worked out from the own register
+abbrev pub misread_twin : Circuit
+misread_twin = record small_twin {
+  nodes = gate xor_cover (0 ∷ 1 ∷ []) ∷ gate xor_cover (0 ∷ 2 ∷ []) ∷ gate not_cover (4 ∷ []) ∷ gate not_cover (1 ∷ [])
+      ∷ gate straight (3 ∷ 5 ∷ 1 ∷ 6 ∷ []) ∷ gate crossed (3 ∷ 5 ∷ 1 ∷ 6 ∷ []) ∷ [];
+}
+
+-- there net 6 doesn't watch the register
+abbrev pub MisreadIsUnwatched : Type 0
+MisreadIsUnwatched = IsWatchOf small_source misread_twin small_register_plan small_own small_copy (0 ∷ []) 6 → ⊥

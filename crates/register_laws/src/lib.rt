@@ -21,7 +21,7 @@ pub use mapped::{
 pub use networks::without_registers_it_is_the_promise_on_networks;
 pub use parts::{parts_answer_alike, secure_for_the_whole};
 pub use registers::{marks_hold_what_reaches, registers_are_fault_secure, registers_are_secure};
-pub use small_twin::the_small_twin_is_secure;
+pub use small_twin::{the_small_twin_is_secure, watches_read_copies};
 pub use twins::{differing_registers_are_heard, twins_are_secure};
 pub use wrong_twins::{
     apart_in_one_step_is_not_enough, copies_begin_as_their_registers, copies_read_copies,

@@ -1,5 +1,5 @@
 //! A small netlist that meets `IsTwin` and `IsWatchOf`.
-ghost use Rattle.register_laws.specs.SmallTwin.{SmallIsTwin, SmallIsWatched, SmallTwinIsFaultSecure, SmallTwinIsSecure};
+ghost use Rattle.register_laws.specs.SmallTwin.{SmallIsTwin, SmallIsWatched, MisreadIsUnwatched, SmallTwinIsFaultSecure, SmallTwinIsSecure};
 
 /// A netlist of two registers and six nodes is a twin, and so secure against any one failing cell and each listed fault. Its watch meets
 /// `IsWatchOf`.
@@ -8,4 +8,9 @@ pub fn the_small_twin_is_secure()
     ensures watched { SmallIsWatched }
     ensures cells { SmallTwinIsSecure }
     ensures faults { SmallTwinIsFaultSecure }
+{}
+
+/// Where the check of its watch is worked out from the own register, and not from the copy, the check doesn't meet `IsWatchOf`.
+pub fn watches_read_copies()
+    ensures unwatched { MisreadIsUnwatched }
 {}
