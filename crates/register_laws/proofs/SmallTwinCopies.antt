@@ -14,11 +14,11 @@ use Rattle.fault_secure.specs.Depends.{Depends, itself, through}
 use Rattle.fault_secure.specs.FailingCell.{IsCell}
 use Rattle.structure_laws.specs.Toggle.{straight, crossed}
 use Rattle.structure_laws.proofs.Each.{each, each_pin}
-use Rattle.register_laws.specs.RegisterPlan.{front_nets, front, IsOdd, next_net}
+use Rattle.register_laws.specs.RegisterPlan.{front_nets, front, IsOdd, IsWatchList, next_net}
 use Rattle.register_laws.specs.RegisterStructure.{Reaches, at, IsNeeded, IsOfRegisterChecker, DecidesGroups}
 use Rattle.register_laws.specs.RegisterStructure.Reaches.{own, through as by_node, across}
 use Rattle.register_laws.specs.Twin.{renamed, HasCopy}
-use Rattle.register_laws.specs.SmallTwin.{small_source, small_twin, small_register_plan, small_own, small_copy, misread_twin, SmallIsTwin, SmallIsWatched, MisreadIsUnwatched, SmallTwinIsSecure, SmallTwinIsFaultSecure}
+use Rattle.register_laws.specs.SmallTwin.{small_source, small_twin, small_register_plan, small_own, small_copy, misread_twin, SmallIsTwin, SmallIsPlanned, SmallIsWatched, MisreadIsUnwatched, SmallTwinIsSecure, SmallTwinIsFaultSecure}
 use Rattle.register_laws.proofs.TwinsSecure.{twins_are_secure, twins_are_fault_secure}
 
 source_closed : IsClosed small_source
@@ -235,6 +235,35 @@ small_is_twin = record {
   checks_apart = checks_apart;
   foretold = foretold;
   checker = checker;
+}
+
+-- ---- the plan
+
+small_watched : IsWatchList small_twin (1 ∷ 6 ∷ [])
+small_watched = record {
+  registers = 1 ∷ [];
+  check = 6;
+  parts = refl;
+  latches = All-cons (λ net. (1 ≤ net) × (net < 3)) 1 [] (omega arith) (All-nil (λ net. (1 ≤ net) × (net < 3)));
+  once = λ a b h k e. omega arith;
+  inside = omega arith;
+}
+
+-- the plan is of the netlist
+pub small_is_planned : SmallIsPlanned
+small_is_planned = record {
+  parity = refl;
+  version = refl;
+  stateless = refl;
+  plan_of = record {
+    outputs = refl;
+    rail1 = refl;
+    rail2 = refl;
+    checks = All-cons (λ net. net < 9) 5 [] (omega arith) (All-nil (λ net. net < 9));
+    rails = omega arith;
+    latches = refl;
+  };
+  watched = All-cons (IsWatchList small_twin) (1 ∷ 6 ∷ []) [] small_watched (All-nil (IsWatchList small_twin));
 }
 
 -- ---- the watch

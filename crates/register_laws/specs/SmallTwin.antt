@@ -1,11 +1,11 @@
--- A small twin with a watch, which meets `IsTwin` and `IsWatchOf`: one register, whose next value is the exclusive or of it and the input, and that value is the
+-- A small twin with a watch, which meets `IsTwin`, `IsWatchOf` and `IsRegisterPlanOf`: one register, whose next value is the exclusive or of it and the input, and that value is the
 -- output. It guards against definitions that nothing meets.
 use Rattle.std.specs.Prelude.{◌+◌, true, [], ◌∷◌, slice_index}
 use Rattle.tsc_cover.specs.Gates.{not_cover, xor_cover}
 use Rattle.fault_secure.specs.declared.code.Code.TheVariants.{Parity}
 use Rattle.fault_secure.specs.Circuit.{Circuit, gate}
 use Rattle.structure_laws.specs.Toggle.{straight, crossed}
-use Rattle.register_laws.specs.RegisterPlan.{RegisterPlan}
+use Rattle.register_laws.specs.RegisterPlan.{RegisterPlan, IsRegisterPlanOf}
 use Rattle.register_laws.specs.RegisterSecure.{IsRegisterSecure, IsRegisterFaultSecure}
 use Rattle.register_laws.specs.Twin.{Placing, IsTwin}
 use Rattle.register_laws.specs.Watch.{IsWatchOf}
@@ -53,6 +53,10 @@ small_copy = record { net = λ n. slice_index (0 ∷ 2 ∷ 4 ∷ []) n; latch_at
 -- it is a twin
 abbrev pub SmallIsTwin : Type 0
 SmallIsTwin = IsTwin small_source small_twin small_register_plan small_own small_copy
+
+-- the plan is of it
+abbrev pub SmallIsPlanned : Type 0
+SmallIsPlanned = IsRegisterPlanOf small_twin small_register_plan
 
 -- net 6 watches its register
 abbrev pub SmallIsWatched : Type 0

@@ -1,10 +1,11 @@
-//! A small netlist that meets `IsTwin` and `IsWatchOf`.
-ghost use Rattle.register_laws.specs.SmallTwin.{SmallIsTwin, SmallIsWatched, MisreadIsUnwatched, SmallTwinIsFaultSecure, SmallTwinIsSecure};
+//! A small netlist that meets `IsTwin`, `IsWatchOf` and `IsRegisterPlanOf`.
+ghost use Rattle.register_laws.specs.SmallTwin.{SmallIsPlanned, SmallIsTwin, SmallIsWatched, MisreadIsUnwatched, SmallTwinIsFaultSecure, SmallTwinIsSecure};
 
 /// A netlist of two registers and six nodes is a twin, and so secure against any one failing cell and each listed fault. Its watch meets
-/// `IsWatchOf`.
+/// `IsWatchOf`, and its plan `IsRegisterPlanOf`.
 pub fn the_small_twin_is_secure()
     ensures twin { SmallIsTwin }
+    ensures planned { SmallIsPlanned }
     ensures watched { SmallIsWatched }
     ensures cells { SmallTwinIsSecure }
     ensures faults { SmallTwinIsFaultSecure }
