@@ -8,7 +8,7 @@ use Rattle.fault_secure.specs.FailingCell.{IsCell, RunsBut, HasOneRunBut}
 use Rattle.fault_secure.specs.FaultSecure.{outputs_in}
 use Rattle.mapping_laws.specs.Mapping.{IsMapped, moved_plan}
 use Rattle.mapping_laws.specs.FailingBlock.{RunsButBlock, HasOneRunButBlock}
-use Rattle.register_laws.specs.RegisterPlan.{RegisterPlan}
+use Rattle.register_laws.specs.RegisterPlan.{RegisterPlan, IsRegisterPlanOf}
 use Rattle.register_laws.specs.RegisterSecure.{shown, IsCalm, NoWrongOutput, IsRegisterSecure}
 use Rattle.register_laws.specs.Part.{IsPart}
 use Rattle.register_laws.specs.Twin.{Placing}
@@ -66,6 +66,11 @@ AlarmSecureForTheWhole = (T S N : Circuit) (P : RegisterPlan) (place : Placing) 
 -- the plan of the mapped netlist: its checks, rails and watched nets moved
 abbrev pub moved_registers : (ℕ → ℕ) → RegisterPlan → RegisterPlan
 moved_registers at P = record { plan = moved_plan at P.plan; watches = map (map at) P.watches }
+
+-- it is of the mapped netlist where the plan is of the netlist
+abbrev pub MappedPlansAreOfTheirs : Type 0
+MappedPlansAreOfTheirs = (N G : Circuit) (at block : ℕ → ℕ) (P : RegisterPlan) → IsMapped N G at block → IsRegisterPlanOf N P
+    → IsRegisterPlanOf G (moved_registers at P)
 
 -- what is alarm-secure is, mapped cover by cover, alarm-secure against any failing gates of one block
 abbrev pub MappedRegistersAreBlockAlarmSecure : Type 0

@@ -38,7 +38,7 @@ pub record IsWatchList (N : Circuit) (watched : List ℕ) : Type 0 where
   pub inside : check < nets N
 
 -- the plan is of the netlist: under parity, in version 1 and without state words, its nets are nets of the netlist, whose outputs are the
--- plan's and then the two rails, and nothing more. No law here needs it; a command has to ask for it beside what is secure
+-- plan's and then the two rails, and nothing more. No law on what is secure needs it; a command has to ask for it beside
 pub record IsRegisterPlanOf (N : Circuit) (P : RegisterPlan) : Type 0 where
   pub parity : P.plan.code ≡ Parity
   pub version : P.plan.version ≡ 1

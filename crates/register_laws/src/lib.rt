@@ -14,9 +14,9 @@ mod twins;
 mod wrong_twins;
 
 pub use mapped::{
-    alarm_secure_registers_show_faults, mapped_registers_are_alarm_secure,
-    mapped_registers_are_block_alarm_secure, mapped_registers_are_secure,
-    register_secure_is_alarm_secure,
+    alarm_secure_registers_show_faults, mapped_plans_are_of_theirs,
+    mapped_registers_are_alarm_secure, mapped_registers_are_block_alarm_secure,
+    mapped_registers_are_secure, register_secure_is_alarm_secure,
 };
 pub use networks::without_registers_it_is_the_promise_on_networks;
 pub use parts::{parts_answer_alike, secure_for_the_whole};

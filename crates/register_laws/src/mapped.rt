@@ -1,5 +1,5 @@
-//! Alarm-secure: what is asked of outputs and alarm alone, which mapping cover by cover keeps.
-ghost use Rattle.register_laws.specs.RegisterMapping.{MappedRegistersAreAlarmSecure, MappedRegistersAreBlockAlarmSecure, MappedRegistersAreSecure, RegisterAlarmSecureForFaults, RegisterSecureIsAlarmSecure};
+//! What mapping cover by cover keeps; and alarm-secure, which is asked of outputs and alarm alone.
+ghost use Rattle.register_laws.specs.RegisterMapping.{MappedPlansAreOfTheirs, MappedRegistersAreAlarmSecure, MappedRegistersAreBlockAlarmSecure, MappedRegistersAreSecure, RegisterAlarmSecureForFaults, RegisterSecureIsAlarmSecure};
 
 /// What is secure against any one failing cell is alarm-secure: no wrong output comes before its alarm.
 pub fn register_secure_is_alarm_secure()
@@ -27,4 +27,9 @@ pub fn mapped_registers_are_alarm_secure()
 /// wrong output or check shows at its own step there too.
 pub fn mapped_registers_are_secure()
     ensures secure { MappedRegistersAreSecure }
+{}
+
+/// A plan of a netlist, with its checks, rails and watched nets moved, is a plan of the netlist mapped cover by cover.
+pub fn mapped_plans_are_of_theirs()
+    ensures planned { MappedPlansAreOfTheirs }
 {}
