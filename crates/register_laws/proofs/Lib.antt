@@ -6,6 +6,7 @@ pub mod TwinsSecure
 pub mod WatchParity
 pub mod PartRuns
 pub mod MappedRegisters
+pub mod MappedPlans
 pub mod SmallTwinCopies
 pub mod WrongTwinRuns
 pub mod NetworkSteps

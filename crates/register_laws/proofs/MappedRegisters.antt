@@ -1,6 +1,6 @@
 -- What is alarm-secure stays so when it is mapped cover by cover: outputs, parities and alarms, moved.
 use Rattle.std.proofs.Common.{◌≡◌, ℕ, zero, suc, ◌<◌, ◌++◌, Bool, false, List, [], ◌∷◌, map, length, take, slice_index, slice_index_or, All, IsTrue, refl, sym, ap, ap₂, ◌∙◌, subst, arith}
-use Rattle.std.proofs.lemmas.List.{get_or-map, take-map, map-append}
+use Rattle.std.proofs.lemmas.List.{get_or-map, length-map, take-map, map-append}
 use Rattle.std.proofs.lemmas.List.Elements.{All-nil, All-cons, All-head, All-tail, All-map}
 use Rattle.tsc_bits.specs.Counting.{odd}
 use Rattle.fault_secure.specs.Circuit.{Circuit, nets, bit}
@@ -18,8 +18,8 @@ use Rattle.mapping_laws.proofs.MappedBits.{same_latches, same_init, mapped_bit, 
 use Rattle.mapping_laws.proofs.FailingBlocks.{working_from, runs_as_cell, runs_of_block, cell_is_cell}
 use Rattle.mapping_laws.proofs.OneRunBut.{one_run_but_block}
 use Rattle.register_laws.specs.RegisterPlan.{RegisterPlan, front_nets, front, IsOdd}
-use Rattle.register_laws.specs.RegisterSecure.{IsCalm, NoWrongOutput}
-use Rattle.register_laws.specs.RegisterMapping.{IsRegisterBlockAlarmSecure, RegisterSecureIsAlarmSecure, RegisterAlarmSecureForFaults, moved_registers, MappedRegistersAreBlockAlarmSecure, MappedRegistersAreAlarmSecure}
+use Rattle.register_laws.specs.RegisterSecure.{IsCalm, ErrorsShow, NoWrongOutput}
+use Rattle.register_laws.specs.RegisterMapping.{IsRegisterAlarmSecure, IsRegisterBlockAlarmSecure, RegisterSecureIsAlarmSecure, RegisterAlarmSecureForFaults, moved_registers, MappedRegistersAreBlockAlarmSecure, MappedRegistersAreAlarmSecure, MappedRegistersAreSecure}
 use Rattle.register_laws.proofs.CopyBits.{map_renamed}
 
 -- what is secure is alarm-secure
@@ -35,9 +35,16 @@ register_secure_is_alarm_secure S N P secure = record {
 
 -- a listed fault is among what one failing cell does
 pub register_alarm_secure_for_faults : RegisterAlarmSecureForFaults
-register_alarm_secure_for_faults S N P f h m w xs ws vs us secure listed source run held =
-    let failing = listed_faults_are_failing_cells N f h xs us listed held in
-    secure.alarmed failing.cell m w xs ws vs us failing.is_cell source run failing.runs
+register_alarm_secure_for_faults S N P acyclic secure = record {
+  source_runs = secure.source_runs;
+  one_run = secure.one_run;
+  one_run_under = λ f h xs listed sized. one_run N f h xs acyclic sized;
+  follows = secure.follows;
+  quiet = secure.quiet;
+  alarmed = λ f h m w xs ws vs us listed source run held.
+      let failing = listed_faults_are_failing_cells N f h xs us listed held in
+      secure.alarmed failing.cell m w xs ws vs us failing.is_cell source run failing.runs;
+}
 
 -- a run without a fault, with no fault marked
 pub marked : (N : Circuit) (s : List Bool) (xs vs : List (List Bool)) → CleanFrom N s xs vs → RunsFrom N NoFault s (map (λ _. false) xs) xs vs
@@ -65,6 +72,15 @@ module _ (N G : Circuit) (at block : ℕ → ℕ) (m : IsMapped N G at block) (P
       groups = λ k d low. subst (λ w. IsTrue (odd (bits_at w (slice_index_or (members P.plan) k d)))) (sym front_moved) (h.groups k d low);
       watched = All-map (λ nets. IsTrue (odd (bits_at v nets))) (map at) P.watches
           (λ k d low. subst (λ bits. IsTrue (odd bits)) (sym (bits_moved (slice_index_or P.watches k d))) (h.watched k d low));
+    }
+
+    odd_before : IsOdd G (moved_registers at P) v → IsOdd N P (as_mapped N at v)
+    odd_before h = record {
+      groups = λ k d low. subst (λ w. IsTrue (odd (bits_at w (slice_index_or (members P.plan) k d)))) front_moved (h.groups k d low);
+      watched = λ k d low.
+          let moved : slice_index_or (map (map at) P.watches) k [] ≡ map at (slice_index_or P.watches k d) = get_or-map (map at) P.watches k d [] low in
+          subst (λ bits. IsTrue (odd bits)) (ap (map (bit v)) moved ∙ bits_moved (slice_index_or P.watches k d))
+          (h.watched k [] (subst (λ n. k < n) (sym (length-map P.watches (map at))) low));
     }
 
     rails_moved : RailsAgree P.plan (as_mapped N at v) → RailsAgree (moved_registers at P).plan v
@@ -121,6 +137,19 @@ module _ (N G : Circuit) (at block : ℕ → ℕ) (m : IsMapped N G at block) (P
       one_more rest zero low = h.0.sized
       one_more rest (suc step) low = rest step (omega arith)
 
+  sized_clean : (s : List Bool) (xs vs : List (List Bool)) → CleanFrom G s xs vs → (length vs ≡ length xs) × AllSized vs
+  sized_clean s [] [] h = (refl, λ step low. absurd (omega arith))
+  sized_clean s [] (v ∷ vs) h = absurd h
+  sized_clean s (x ∷ xs) [] h = absurd h
+  sized_clean s (x ∷ xs) (v ∷ vs) h =
+      let settled : Settles G NoFault (bit x) (bit s) v = h.0 in
+      let rest = sized_clean (next_state G NoFault v) xs vs h.1 in
+      (ap suc rest.0, one_more settled.sized rest.1)
+    where
+      one_more : length v ≡ nets G → AllSized vs → AllSized (v ∷ vs)
+      one_more here rest zero low = here
+      one_more here rest (suc step) low = rest step (omega arith)
+
   alarms_moved : (S : Circuit) (xs ws us : List (List Bool)) → length us ≡ length xs → AllSized us
       → NoWrongOutput S N P xs ws (map (as_mapped N at) us) → NoWrongOutput S G (moved_registers at P) xs ws us
   alarms_moved S xs ws us long sized h step within wrong =
@@ -135,8 +164,26 @@ module _ (N G : Circuit) (at block : ℕ → ℕ) (m : IsMapped N G at block) (P
         rails_agree = rails_moved (at_step us alarm.at) (sized alarm.at early) (subst (RailsAgree P.plan) (moved alarm.at early) alarm.rails_agree);
       }
 
+  -- an error of N shows in G
+  errors_moved : (xs vs us : List (List Bool)) → length vs ≡ length xs → AllSized vs → length us ≡ length xs → AllSized us
+      → ErrorsShow N P xs (map (as_mapped N at) vs) (map (as_mapped N at) us) → ErrorsShow G (moved_registers at P) xs vs us
+  errors_moved xs vs us long_vs sized_vs long_us sized_us h step within wrong =
+      let u = at_step us step in
+      let v = at_step vs step in
+      let sized : length u ≡ nets G = sized_us step (omega arith) in
+      let moved_u : at_step (map (as_mapped N at) us) step ≡ as_mapped N at u = get_or-map (as_mapped N at) us step [] [] (omega arith) in
+      let moved_v : at_step (map (as_mapped N at) vs) step ≡ as_mapped N at v = get_or-map (as_mapped N at) vs step [] [] (omega arith) in
+      let error = h step within (λ same. wrong (front_moved u sized ∙ ap (front N P) (sym moved_u) ∙ same ∙ ap (front N P) moved_v
+      ∙ sym (front_moved v (sized_vs step (omega arith))))) in
+      record {
+        not_odd = λ is. error.not_odd (subst (IsOdd N P) (sym moved_u) (odd_before u sized is));
+        rails_agree = rails_moved u sized (subst (RailsAgree P.plan) moved_u error.rails_agree);
+      }
+
 pub mapped_registers_are_block_alarm_secure : MappedRegistersAreBlockAlarmSecure
 mapped_registers_are_block_alarm_secure S N G at block P m acyclic secure = record {
+  inputs = m.inputs;
+  latches = same_latches N G at block m;
   blocks = m.blocks;
   source_runs = secure.source_runs;
   one_run = λ w xs sized. one_run G NoFault w xs acyclic sized;
@@ -169,3 +216,28 @@ mapped_registers_are_alarm_secure S N G at block P m acyclic secure = record {
   where
     by_blocks : IsRegisterBlockAlarmSecure S N G block (moved_registers at P)
     by_blocks = mapped_registers_are_block_alarm_secure S N G at block P m acyclic secure
+
+-- an error shows at its own step too
+pub mapped_registers_are_secure : MappedRegistersAreSecure
+mapped_registers_are_secure S N G at block P m acyclic secure = record {
+  source_runs = alarmed.source_runs;
+  one_run = alarmed.one_run;
+  one_run_but = alarmed.one_run_but;
+  follows = alarmed.follows;
+  quiet = alarmed.quiet;
+  heard = λ net k w xs ws vs us is source run failing.
+      let by_block = runs_of_block N G block net xs us failing in
+      let cell = cell_at N G block net in
+      let sized = sized_failing N G at block m P cell (init_state G) xs us by_block in
+      let clean = sized_clean N G at block m P (init_state G) xs vs (clean_from G (init_state G) w xs vs run) in
+      record {
+        errors_show = errors_moved N G at block m P xs vs us clean.0 clean.1 sized.0 sized.1
+            (secure.heard cell k (map (λ _. false) xs) xs ws (map (as_mapped N at) vs) (map (as_mapped N at) us)
+            (cell_is_cell N G block m.inputs (same_latches N G at block m) m.blocks net is) source
+            (before N G at block m P w xs vs run) (runs_as_cell N G at block m cell xs us by_block)).errors_show;
+        no_wrong_output = alarmed.alarmed net k w xs ws vs us is source run failing;
+      };
+}
+  where
+    alarmed : IsRegisterAlarmSecure S G (moved_registers at P)
+    alarmed = mapped_registers_are_alarm_secure S N G at block P m acyclic (register_secure_is_alarm_secure S N P secure)

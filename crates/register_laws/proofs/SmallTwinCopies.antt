@@ -1,5 +1,5 @@
 -- The small twin is a twin.
-use Rattle.std.proofs.Common.{◌≡◌, ◌↔◌, ℕ, zero, suc, ◌<◌, ◌≤◌, ◌⊎◌, inl, inr, Bool, true, false, List, [], ◌∷◌, length, count_by, ◌==◌, slice_index, slice_index_or, Contains, refl, sym, ◌∙◌, subst, arith}
+use Rattle.std.proofs.Common.{◌≡◌, ◌↔◌, ℕ, zero, suc, ◌<◌, ◌≤◌, ◌⊎◌, inl, inr, Bool, true, false, not, List, [], ◌∷◌, length, count_by, ◌==◌, slice_index, slice_index_or, Contains, refl, sym, ◌∙◌, subst, arith}
 use Rattle.std.proofs.lemmas.Bool.{false≢true, true≢false}
 use Rattle.std.proofs.lemmas.List.Elements.{All-nil, All-cons, All-from_recursion}
 use Rattle.tsc_cover.specs.Cover.{truth}
@@ -8,17 +8,17 @@ use Rattle.tsc_bits.specs.Counting.{odd, differ}
 use Rattle.fault_secure.specs.Circuit.{LatchOf, NodeOf, node, node_net, latch_net, latch, pin_net, bit}
 use Rattle.fault_secure.specs.StuckAt.{NoFault}
 use Rattle.fault_secure.specs.Closed.{IsClosed}
-use Rattle.fault_secure.specs.Settle.{Settles, Acyclic}
+use Rattle.fault_secure.specs.Settle.{Settles, Acyclic, node_value}
 use Rattle.fault_secure.specs.CodePlan.{bits_at, HasGroups, concat_places, next_nets}
 use Rattle.fault_secure.specs.Depends.{Depends, itself, through}
 use Rattle.fault_secure.specs.FailingCell.{IsCell}
 use Rattle.structure_laws.specs.Toggle.{straight, crossed}
 use Rattle.structure_laws.proofs.Each.{each, each_pin}
-use Rattle.register_laws.specs.RegisterPlan.{front_nets, front, IsOdd, next_net}
+use Rattle.register_laws.specs.RegisterPlan.{front_nets, front, IsOdd, IsWatchList, next_net}
 use Rattle.register_laws.specs.RegisterStructure.{Reaches, at, IsNeeded, IsOfRegisterChecker, DecidesGroups}
 use Rattle.register_laws.specs.RegisterStructure.Reaches.{own, through as by_node, across}
 use Rattle.register_laws.specs.Twin.{renamed, HasCopy}
-use Rattle.register_laws.specs.SmallTwin.{small_source, small_twin, small_register_plan, small_own, small_copy, SmallIsTwin, SmallTwinIsSecure, SmallTwinIsFaultSecure}
+use Rattle.register_laws.specs.SmallTwin.{small_source, small_twin, small_register_plan, small_own, small_copy, misread_twin, SmallIsTwin, SmallIsPlanned, SmallIsWatched, MisreadIsUnwatched, SmallTwinIsSecure, SmallTwinIsFaultSecure}
 use Rattle.register_laws.proofs.TwinsSecure.{twins_are_secure, twins_are_fault_secure}
 
 source_closed : IsClosed small_source
@@ -237,8 +237,65 @@ small_is_twin = record {
   checker = checker;
 }
 
+-- ---- the plan
+
+small_watched : IsWatchList small_twin (1 ∷ 6 ∷ [])
+small_watched = record {
+  registers = 1 ∷ [];
+  check = 6;
+  parts = refl;
+  latches = All-cons (λ net. (1 ≤ net) × (net < 3)) 1 [] (omega arith) (All-nil (λ net. (1 ≤ net) × (net < 3)));
+  once = λ a b h k e. omega arith;
+  inside = omega arith;
+}
+
+-- the plan is of the netlist
+pub small_is_planned : SmallIsPlanned
+small_is_planned = record {
+  parity = refl;
+  version = refl;
+  stateless = refl;
+  plan_of = record {
+    outputs = refl;
+    rail1 = refl;
+    rail2 = refl;
+    checks = All-cons (λ net. net < 9) 5 [] (omega arith) (All-nil (λ net. net < 9));
+    rails = omega arith;
+    latches = refl;
+  };
+  watched = All-cons (IsWatchList small_twin) (1 ∷ 6 ∷ []) [] small_watched (All-nil (IsWatchList small_twin));
+}
+
+-- ---- the watch
+
+negation : (b c : Bool) → c ≡ truth not_cover (b ∷ []) → c ≡ not (differ b false)
+negation true c e = e
+negation false c e = e
+
+-- net 6 watches the register
+pub small_is_watched : SmallIsWatched
+small_is_watched = record {
+  listed = (0, omega arith, refl);
+  within = All-cons (λ l. l < 1) 0 [] (omega arith) (All-nil (λ l. l < 1));
+  once = each 1 (λ l. count_by (λ other. l == other) (0 ∷ []) ≡ 1) (refl, tt);
+  apart = λ l k h g e. omega arith;
+  follows = λ v drivers. negation (bit v 2) (bit v 6) (drivers.settles 3 (omega arith) (itself 6 (omega arith) refl));
+}
+
 pub small_twin_is_secure : SmallTwinIsSecure
 small_twin_is_secure = twins_are_secure small_source small_twin small_register_plan small_own small_copy small_is_twin
 
 pub small_twin_is_fault_secure : SmallTwinIsFaultSecure
 small_twin_is_fault_secure = twins_are_fault_secure small_source small_twin small_register_plan small_own small_copy small_is_twin
+
+-- ---- a check that reads the own register
+
+-- the register is 1 and its copy 0, and every node settles
+abbrev misread_bits : List Bool
+misread_bits = false ∷ true ∷ false ∷ true ∷ false ∷ true ∷ false ∷ truth straight (true ∷ true ∷ true ∷ false ∷ []) ∷ truth crossed (true ∷ true ∷ true ∷ false ∷ []) ∷ []
+
+misread_settles : (q : ℕ) → q < 6 → bit misread_bits (node_net misread_twin q) ≡ node_value misread_twin NoFault misread_bits q
+misread_settles = each 6 (λ q. bit misread_bits (node_net misread_twin q) ≡ node_value misread_twin NoFault misread_bits q) (refl, (refl, (refl, (refl, (refl, (refl, tt))))))
+
+pub misread_is_unwatched : MisreadIsUnwatched
+misread_is_unwatched watch = false≢true (watch.follows misread_bits (record { settles = λ q h d. misread_settles q h }))

@@ -64,11 +64,11 @@ watch_counts N own copy registers check v settles =
     ∙ ap not (sym (differences_odd N own copy v registers))
 
 pub watch_is_heard : WatchIsHeard
-watch_is_heard N P own copy registers check v checker listed settles watch differ_oddly = elim (same_bit (bit v P.plan.rail1) (bit v P.plan.rail2)) [
+watch_is_heard S N P own copy registers check v checker watch settles drivers differ_oddly = elim (same_bit (bit v P.plan.rail1) (bit v P.plan.rail2)) [
   | inl agree ↦ agree
   | inr differ ↦
       let odd_all = (checker.decides v settles).0 differ in
       let nets = register_nets N own registers ++ check ∷ [] in
-      let is_odd : odd (bits_at v nets) ≡ true = subst (λ ns. IsTrue (odd (bits_at v ns))) listed.2 (odd_all.watched listed.0 nets listed.1) in
-      absurd (true≢false (sym is_odd ∙ watch_counts N own copy registers check v watch ∙ ap not differ_oddly))
+      let is_odd : odd (bits_at v nets) ≡ true = subst (λ ns. IsTrue (odd (bits_at v ns))) watch.listed.2 (odd_all.watched watch.listed.0 nets watch.listed.1) in
+      absurd (true≢false (sym is_odd ∙ watch_counts N own copy registers check v (watch.follows v drivers) ∙ ap not differ_oddly))
 ]

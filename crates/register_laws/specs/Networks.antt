@@ -1,4 +1,4 @@
--- Without registers the promise is the one on networks: the statement of the law.
+-- Without registers the promise gives the one on networks: the statement of the law.
 use Rattle.std.specs.Prelude.{◌≡◌, []}
 use Rattle.fault_secure.specs.declared.code.Code.TheVariants.{Parity}
 use Rattle.fault_secure.specs.Circuit.{Circuit}
@@ -12,7 +12,8 @@ use Rattle.register_laws.specs.RegisterSecure.{IsRegisterSecure}
 abbrev pub unwatched : CodePlan → RegisterPlan
 unwatched P = record { plan = P; watches = [] }
 
--- where neither source nor netlist has a register, what is secure here is secure against any one failing cell for the network
+-- where neither source nor netlist has a register, under parity, with no latches and no weight in the plan and nothing watched, what is secure
+-- here is secure against any one failing cell for the network
 abbrev pub NetworksAreCellSecure : Type 0
 NetworksAreCellSecure = (S N : Circuit) (P : CodePlan) → S.latches ≡ [] → N.latches ≡ [] → P.code ≡ Parity → P.latches ≡ 0 → P.weight ≡ 0
     → IsRegisterSecure S N (unwatched P) → IsCellSecure (Network S) N P

@@ -1,4 +1,4 @@
--- A source without some of its registers and covers, on which no output depends, answers as the source does: the statements of the laws.
+-- A part of a source, which has the outputs that the source shows, answers as the source does: the statements of the laws.
 use Rattle.std.specs.Prelude.{◌≡◌, Bool, List, map}
 use Rattle.fault_secure.specs.Circuit.{Circuit}
 use Rattle.fault_secure.specs.StuckAt.{NoFault}
@@ -22,7 +22,7 @@ abbrev pub PartsAnswerAlike : Type 0
 PartsAnswerAlike = (T S : Circuit) (place : Placing) (m w : List Bool) (xs rs ws : List (List Bool)) → IsPart T S place
     → Runs T NoFault m xs rs → Runs S NoFault w xs ws → map (shown S) ws ≡ map (shown T) rs
 
--- what is secure for a part is secure for the whole
+-- what is secure for a part is secure for the whole, where the whole has no ring
 abbrev pub SecureForTheWhole : Type 0
 SecureForTheWhole = (T S N : Circuit) (P : RegisterPlan) (place : Placing) → IsPart T S place → Acyclic S → IsRegisterSecure T N P → IsRegisterSecure S N P
 

@@ -10,7 +10,7 @@ use Rattle.register_laws.specs.RegisterSecure.{FollowsNetwork, IsRegisterSecure,
 abbrev pub RegistersAreSecure : Type 0
 RegistersAreSecure = (S N : Circuit) (P : RegisterPlan) → Acyclic S → HasRegisterStructure N P → FollowsNetwork S N P → IsRegisterSecure S N P
 
--- and what is so is secure against each listed fault, present at any steps
+-- and what is so, without a ring, is secure against each listed fault, present at any steps
 abbrev pub RegistersAreFaultSecure : Type 0
 RegistersAreFaultSecure = (S N : Circuit) (P : RegisterPlan) → Acyclic N → IsRegisterSecure S N P → IsRegisterFaultSecure S N P
 

@@ -8,12 +8,13 @@ use Rattle.fault_secure.specs.FailingCell.{IsCell, RunsBut, HasOneRunBut}
 use Rattle.fault_secure.specs.FaultSecure.{outputs_in}
 use Rattle.mapping_laws.specs.Mapping.{IsMapped, moved_plan}
 use Rattle.mapping_laws.specs.FailingBlock.{RunsButBlock, HasOneRunButBlock}
-use Rattle.register_laws.specs.RegisterPlan.{RegisterPlan}
+use Rattle.register_laws.specs.RegisterPlan.{RegisterPlan, IsRegisterPlanOf}
 use Rattle.register_laws.specs.RegisterSecure.{shown, IsCalm, NoWrongOutput, IsRegisterSecure}
 use Rattle.register_laws.specs.Part.{IsPart}
 use Rattle.register_laws.specs.Twin.{Placing}
 
--- as secure against any one failing cell, except for what is asked of the first wrong output or check: no wrong output comes before its alarm
+-- as secure against any one failing cell, except for what is asked of each wrong output or check at its own step: no wrong output comes
+-- before its alarm
 pub record IsRegisterAlarmSecure (S N : Circuit) (P : RegisterPlan) : Type 0 where
   pub source_runs : (m : List Bool) (xs : List (List Bool)) → length m ≡ length xs → HasOneRun S NoFault m xs
   pub one_run : (w : List Bool) (xs : List (List Bool)) → length w ≡ length xs → HasOneRun N NoFault w xs
@@ -24,8 +25,21 @@ pub record IsRegisterAlarmSecure (S N : Circuit) (P : RegisterPlan) : Type 0 whe
   pub alarmed : (cell : ℕ) (m w : List Bool) (xs ws vs us : List (List Bool)) → IsCell N cell
       → Runs S NoFault m xs ws → Runs N NoFault w xs vs → RunsBut N cell xs us → NoWrongOutput S N P xs ws us
 
--- the same of a mapped netlist, against any gates of one block that fail at once, or one failing latch
+-- the same with one listed fault, which the marks h have present at any set of steps: with it too there is exactly one run
+pub record IsRegisterAlarmFaultSecure (S N : Circuit) (P : RegisterPlan) : Type 0 where
+  pub source_runs : (m : List Bool) (xs : List (List Bool)) → length m ≡ length xs → HasOneRun S NoFault m xs
+  pub one_run : (w : List Bool) (xs : List (List Bool)) → length w ≡ length xs → HasOneRun N NoFault w xs
+  pub one_run_under : (f : StuckAt) (h : List Bool) (xs : List (List Bool)) → IsTrue (is_listed N f) → length h ≡ length xs → HasOneRun N f h xs
+  pub follows : (m w : List Bool) (xs ws vs : List (List Bool)) → Runs S NoFault m xs ws → Runs N NoFault w xs vs
+      → map (outputs_in N P.plan) vs ≡ map (shown S) ws
+  pub quiet : (m w : List Bool) (xs ws vs : List (List Bool)) → Runs S NoFault m xs ws → Runs N NoFault w xs vs → All (IsCalm N P) vs
+  pub alarmed : (f : StuckAt) (h m w : List Bool) (xs ws vs us : List (List Bool)) → IsTrue (is_listed N f)
+      → Runs S NoFault m xs ws → Runs N NoFault w xs vs → Runs N f h xs us → NoWrongOutput S N P xs ws us
+
+-- alarm-secure of a mapped netlist, with as many inputs and latches as before, against any gates of one block that fail at once, or one failing latch
 pub record IsRegisterBlockAlarmSecure (S N G : Circuit) (block : ℕ → ℕ) (P : RegisterPlan) : Type 0 where
+  pub inputs : G.inputs ≡ N.inputs
+  pub latches : length G.latches ≡ length N.latches
   pub blocks : (g : ℕ) → g < length G.nodes → block g < length N.nodes
   pub source_runs : (m : List Bool) (xs : List (List Bool)) → length m ≡ length xs → HasOneRun S NoFault m xs
   pub one_run : (w : List Bool) (xs : List (List Bool)) → length w ≡ length xs → HasOneRun G NoFault w xs
@@ -40,11 +54,9 @@ pub record IsRegisterBlockAlarmSecure (S N G : Circuit) (block : ℕ → ℕ) (P
 abbrev pub RegisterSecureIsAlarmSecure : Type 0
 RegisterSecureIsAlarmSecure = (S N : Circuit) (P : RegisterPlan) → IsRegisterSecure S N P → IsRegisterAlarmSecure S N P
 
--- no wrong output of what is alarm-secure comes before its alarm with a listed fault either, present at any steps
+-- what is alarm-secure, without a ring, is so with each listed fault, present at any steps
 abbrev pub RegisterAlarmSecureForFaults : Type 0
-RegisterAlarmSecureForFaults = (S N : Circuit) (P : RegisterPlan) (f : StuckAt) (h m w : List Bool) (xs ws vs us : List (List Bool))
-    → IsRegisterAlarmSecure S N P → IsTrue (is_listed N f)
-    → Runs S NoFault m xs ws → Runs N NoFault w xs vs → Runs N f h xs us → NoWrongOutput S N P xs ws us
+RegisterAlarmSecureForFaults = (S N : Circuit) (P : RegisterPlan) → Acyclic N → IsRegisterAlarmSecure S N P → IsRegisterAlarmFaultSecure S N P
 
 -- what is alarm-secure for a part of a source is so for the whole
 abbrev pub AlarmSecureForTheWhole : Type 0
@@ -55,6 +67,11 @@ AlarmSecureForTheWhole = (T S N : Circuit) (P : RegisterPlan) (place : Placing) 
 abbrev pub moved_registers : (ℕ → ℕ) → RegisterPlan → RegisterPlan
 moved_registers at P = record { plan = moved_plan at P.plan; watches = map (map at) P.watches }
 
+-- it is of the mapped netlist where the plan is of the netlist
+abbrev pub MappedPlansAreOfTheirs : Type 0
+MappedPlansAreOfTheirs = (N G : Circuit) (at block : ℕ → ℕ) (P : RegisterPlan) → IsMapped N G at block → IsRegisterPlanOf N P
+    → IsRegisterPlanOf G (moved_registers at P)
+
 -- what is alarm-secure is, mapped cover by cover, alarm-secure against any failing gates of one block
 abbrev pub MappedRegistersAreBlockAlarmSecure : Type 0
 MappedRegistersAreBlockAlarmSecure = (S N G : Circuit) (at block : ℕ → ℕ) (P : RegisterPlan) → IsMapped N G at block → Acyclic G
@@ -64,3 +81,8 @@ MappedRegistersAreBlockAlarmSecure = (S N G : Circuit) (at block : ℕ → ℕ) 
 abbrev pub MappedRegistersAreAlarmSecure : Type 0
 MappedRegistersAreAlarmSecure = (S N G : Circuit) (at block : ℕ → ℕ) (P : RegisterPlan) → IsMapped N G at block → Acyclic G
     → IsRegisterAlarmSecure S N P → IsRegisterAlarmSecure S G (moved_registers at P)
+
+-- and what is secure, so that each wrong output or check shows at its own step, is so mapped
+abbrev pub MappedRegistersAreSecure : Type 0
+MappedRegistersAreSecure = (S N G : Circuit) (at block : ℕ → ℕ) (P : RegisterPlan) → IsMapped N G at block → Acyclic G
+    → IsRegisterSecure S N P → IsRegisterSecure S G (moved_registers at P)

@@ -1,8 +1,9 @@
 -- Plans of netlists with registers and without state lines: the outputs, their groups and checks, the rails, and what is watched.
-use Rattle.std.specs.Prelude.{ℕ, Bool, List, ◌++◌, map, take, IsTrue, All}
+use Rattle.std.specs.Prelude.{◌≡◌, ℕ, ◌+◌, ◌<◌, ◌≤◌, Bool, List, [], ◌∷◌, ◌++◌, map, take, length, slice_index, IsTrue, All}
 use Rattle.tsc_bits.specs.Counting.{odd}
-use Rattle.fault_secure.specs.Circuit.{Circuit, latch, bit}
-use Rattle.fault_secure.specs.CodePlan.{CodePlan, bits_at, members}
+use Rattle.fault_secure.specs.declared.code.Code.TheVariants.{Parity}
+use Rattle.fault_secure.specs.Circuit.{Circuit, latch, nets, bit}
+use Rattle.fault_secure.specs.CodePlan.{CodePlan, IsPlanOf, bits_at, members}
 
 -- `plan` has the outputs, their groups and checks, and the rails; nothing here looks at its state words. Each list of `watches` has the nets
 -- that are watched together: some registers, and the check of the watch
@@ -26,3 +27,21 @@ pub record IsOdd (N : Circuit) (P : RegisterPlan) (v : List Bool) : Type 0 where
 -- the net at the input of a latch
 abbrev pub next_net : Circuit → ℕ → ℕ
 next_net N l = (latch N l).reads
+
+-- a list of watched nets is of the netlist: latch nets, once each, and then a check, which is any net
+pub record IsWatchList (N : Circuit) (watched : List ℕ) : Type 0 where
+  pub registers : List ℕ
+  pub check : ℕ
+  pub parts : watched ≡ registers ++ check ∷ []
+  pub latches : All (λ net. (N.inputs ≤ net) × (net < N.inputs + length N.latches)) registers
+  pub once : (a b : ℕ) → a < b → b < length registers → slice_index registers a ≡ slice_index registers b → ⊥
+  pub inside : check < nets N
+
+-- the plan is of the netlist: under parity, in version 1 and without state words, its nets are nets of the netlist, whose outputs are the
+-- plan's and then the two rails, and nothing more. No law on what is secure needs it; a command has to ask for it beside
+pub record IsRegisterPlanOf (N : Circuit) (P : RegisterPlan) : Type 0 where
+  pub parity : P.plan.code ≡ Parity
+  pub version : P.plan.version ≡ 1
+  pub stateless : P.plan.states ≡ []
+  pub plan_of : IsPlanOf N P.plan
+  pub watched : All (IsWatchList N) P.watches

@@ -12,18 +12,19 @@ use Rattle.register_laws.specs.RegisterPlan.{RegisterPlan, front, IsOdd}
 abbrev pub shown : Circuit → List Bool → List Bool
 shown S w = map (bit w) S.outputs
 
--- without a fault the netlist follows the source: over the same inputs it has the source's outputs at each step, and every group is odd
+-- without a fault the netlist follows the source: over the same inputs it has the source's outputs at each step, and every group and every
+-- watched list is odd
 pub record FollowsNetwork (S N : Circuit) (P : RegisterPlan) : Type 0 where
   pub outputs : (m w : List Bool) (xs ws vs : List (List Bool)) → Runs S NoFault m xs ws → Runs N NoFault w xs vs
       → map (outputs_in N P.plan) vs ≡ map (shown S) ws
   pub odd : (m w : List Bool) (xs ws vs : List (List Bool)) → Runs S NoFault m xs ws → Runs N NoFault w xs vs → All (IsOdd N P) vs
 
--- quiet: every group is odd, and the rails differ
+-- quiet: every group and every watched list is odd, and the rails differ
 pub record IsCalm (N : Circuit) (P : RegisterPlan) (v : List Bool) : Type 0 where
   pub odd : IsOdd N P v
   pub rails_differ : RailsAgree P.plan v → ⊥
 
--- an error shows: some group isn't odd, and the rails agree
+-- an error shows: some group or some watched list isn't odd, and the rails agree
 pub record ErrorShows (N : Circuit) (P : RegisterPlan) (v : List Bool) : Type 0 where
   pub not_odd : IsOdd N P v → ⊥
   pub rails_agree : RailsAgree P.plan v
@@ -43,8 +44,8 @@ pub record IsHeard (S N : Circuit) (P : RegisterPlan) (xs ws vs us : List (List 
   pub no_wrong_output : NoWrongOutput S N P xs ws us
 
 -- over every list of inputs source and netlist have exactly one run without a fault, and the netlist one for whatever bits a failing cell
--- gives. Without a fault its outputs are those of the source at each step, quietly; and with one failing cell no wrong output comes before
--- the alarm
+-- gives. Without a fault its outputs are those of the source at each step, quietly. With one failing cell no wrong output comes before the
+-- alarm, and each wrong output or check shows at its own step
 pub record IsRegisterSecure (S N : Circuit) (P : RegisterPlan) : Type 0 where
   pub source_runs : (m : List Bool) (xs : List (List Bool)) → length m ≡ length xs → HasOneRun S NoFault m xs
   pub one_run : (w : List Bool) (xs : List (List Bool)) → length w ≡ length xs → HasOneRun N NoFault w xs

@@ -24,7 +24,7 @@ at groups group index = slice_index (slice_index_or groups group []) index
 abbrev pub front_net : Circuit → RegisterPlan → ℕ → ℕ
 front_net N P place = slice_index (front_nets N P) place
 
--- a net that the checker may read, or that a latch reads: an output or a check, a watched net, the input of a latch
+-- a net by which the checker's decision may change (an output, a check or a watched net), or the input of a latch
 abbrev pub IsNeeded : Circuit → RegisterPlan → ℕ → Type 0
 IsNeeded N P net = Contains (front_nets N P) net ⊎ Contains (concat_places P.watches) net ⊎ Contains (next_nets N) net
 

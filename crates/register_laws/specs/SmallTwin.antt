@@ -1,13 +1,14 @@
--- A small twin with a watch, which meets every definition: one register, whose next value is the exclusive or of it and the input, and which is
--- the output. It guards against definitions that nothing meets.
+-- A small twin with a watch, which meets `IsTwin`, `IsWatchOf` and `IsRegisterPlanOf`: one register, whose next value is the exclusive or of it and the input, and that value is the
+-- output. It guards against definitions that nothing meets.
 use Rattle.std.specs.Prelude.{◌+◌, true, [], ◌∷◌, slice_index}
 use Rattle.tsc_cover.specs.Gates.{not_cover, xor_cover}
 use Rattle.fault_secure.specs.declared.code.Code.TheVariants.{Parity}
 use Rattle.fault_secure.specs.Circuit.{Circuit, gate}
 use Rattle.structure_laws.specs.Toggle.{straight, crossed}
-use Rattle.register_laws.specs.RegisterPlan.{RegisterPlan}
+use Rattle.register_laws.specs.RegisterPlan.{RegisterPlan, IsRegisterPlanOf}
 use Rattle.register_laws.specs.RegisterSecure.{IsRegisterSecure, IsRegisterFaultSecure}
 use Rattle.register_laws.specs.Twin.{Placing, IsTwin}
+use Rattle.register_laws.specs.Watch.{IsWatchOf}
 
 -- the nets: 0 the input, 1 the register, which is 1 first, 2 its next value, which is shown
 abbrev pub small_source : Circuit
@@ -53,10 +54,29 @@ small_copy = record { net = λ n. slice_index (0 ∷ 2 ∷ 4 ∷ []) n; latch_at
 abbrev pub SmallIsTwin : Type 0
 SmallIsTwin = IsTwin small_source small_twin small_register_plan small_own small_copy
 
--- and so secure against any one failing cell
+-- the plan is of it
+abbrev pub SmallIsPlanned : Type 0
+SmallIsPlanned = IsRegisterPlanOf small_twin small_register_plan
+
+-- net 6 watches its register
+abbrev pub SmallIsWatched : Type 0
+SmallIsWatched = IsWatchOf small_source small_twin small_register_plan small_own small_copy (0 ∷ []) 6
+
+-- it is secure against any one failing cell
 abbrev pub SmallTwinIsSecure : Type 0
 SmallTwinIsSecure = IsRegisterSecure small_source small_twin small_register_plan
 
 -- and against each listed fault
 abbrev pub SmallTwinIsFaultSecure : Type 0
 SmallTwinIsFaultSecure = IsRegisterFaultSecure small_source small_twin small_register_plan
+
+-- the small twin, except that the check of the watch, net 6, is worked out from the own register
+abbrev pub misread_twin : Circuit
+misread_twin = record small_twin {
+  nodes = gate xor_cover (0 ∷ 1 ∷ []) ∷ gate xor_cover (0 ∷ 2 ∷ []) ∷ gate not_cover (4 ∷ []) ∷ gate not_cover (1 ∷ [])
+      ∷ gate straight (3 ∷ 5 ∷ 1 ∷ 6 ∷ []) ∷ gate crossed (3 ∷ 5 ∷ 1 ∷ 6 ∷ []) ∷ [];
+}
+
+-- there net 6 doesn't watch the register
+abbrev pub MisreadIsUnwatched : Type 0
+MisreadIsUnwatched = IsWatchOf small_source misread_twin small_register_plan small_own small_copy (0 ∷ []) 6 → ⊥

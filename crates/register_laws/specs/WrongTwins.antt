@@ -1,4 +1,4 @@
--- Three small netlists that are no twins, each by one condition. They guard the definition of a twin: none of them is alarm-secure.
+-- Three small netlists, none of which is alarm-secure. Each breaks one condition of a twin: they guard that definition.
 use Rattle.std.specs.Prelude.{ℕ, true, false, List, [], ◌∷◌}
 use Rattle.tsc_cover.specs.Cover.{CoverTable}
 use Rattle.tsc_cover.specs.Gates.{buf_cover, not_cover, xor_cover}
@@ -50,7 +50,7 @@ forked_netlist = record {
   outputs = 1 ∷ 2 ∷ 8 ∷ 9 ∷ [];
 }
 
--- groups that are apart in each step alone don't do: node 5 makes both registers wrong, and a step later no alarm comes
+-- it isn't alarm-secure. Its proof has net 5 fail at step 0: both registers are wrong a step later, and no alarm comes
 abbrev pub ApartInOneStepIsSilent : Type 0
 ApartInOneStepIsSilent = IsRegisterAlarmSecure forked_source forked_netlist (plan_of_one 2 (0 ∷ 1 ∷ []) 7 8 9) → ⊥
 
@@ -69,8 +69,8 @@ leaning_netlist = record {
   outputs = 1 ∷ 5 ∷ 6 ∷ [];
 }
 
--- a copied register that reads an own net doesn't do: node 3 makes both registers wrong. A twin has no such node, since no own cell of it
--- reaches a check
+-- it isn't alarm-secure. Its proof has net 3 fail at step 0: register and copy are wrong a step later, and no alarm comes. A twin has no such
+-- net, since no own cell of it reaches a check
 abbrev pub LeaningIsSilent : Type 0
 LeaningIsSilent = IsRegisterAlarmSecure single_source leaning_netlist (plan_of_one 1 (0 ∷ []) 4 5 6) → ⊥
 
@@ -85,6 +85,6 @@ zeroed_netlist = record {
   outputs = 1 ∷ 6 ∷ 7 ∷ [];
 }
 
--- copies that begin at 0 where their registers begin at 1 don't do: the alarm comes at step 0, without a fault
+-- it isn't alarm-secure. Its proof has no cell fail: the rails agree at step 0 all the same
 abbrev pub ZeroedIsFalse : Type 0
 ZeroedIsFalse = IsRegisterAlarmSecure single_source zeroed_netlist (plan_of_one 1 (0 ∷ []) 5 6 7) → ⊥

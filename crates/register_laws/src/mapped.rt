@@ -1,12 +1,13 @@
-//! Alarm-secure: what is asked of outputs and alarm alone, which mapping cover by cover keeps.
-ghost use Rattle.register_laws.specs.RegisterMapping.{MappedRegistersAreAlarmSecure, MappedRegistersAreBlockAlarmSecure, RegisterAlarmSecureForFaults, RegisterSecureIsAlarmSecure};
+//! What mapping cover by cover keeps; and alarm-secure, which is asked of outputs and alarm alone.
+ghost use Rattle.register_laws.specs.RegisterMapping.{MappedPlansAreOfTheirs, MappedRegistersAreAlarmSecure, MappedRegistersAreBlockAlarmSecure, MappedRegistersAreSecure, RegisterAlarmSecureForFaults, RegisterSecureIsAlarmSecure};
 
 /// What is secure against any one failing cell is alarm-secure: no wrong output comes before its alarm.
 pub fn register_secure_is_alarm_secure()
     ensures secure { RegisterSecureIsAlarmSecure }
 {}
 
-/// With a listed stuck-at fault, present at any steps, no wrong output of what is alarm-secure comes before its alarm.
+/// What is alarm-secure, without a ring, is so with each listed stuck-at fault, present at any steps: there is exactly one run, in which no
+/// wrong output comes before its alarm.
 pub fn alarm_secure_registers_show_faults()
     ensures alarmed { RegisterAlarmSecureForFaults }
 {}
@@ -20,4 +21,15 @@ pub fn mapped_registers_are_block_alarm_secure()
 /// It is alarm-secure against any one failing gate or latch of its own.
 pub fn mapped_registers_are_alarm_secure()
     ensures secure { MappedRegistersAreAlarmSecure }
+{}
+
+/// A secure netlist with registers, mapped cover by cover without a ring, is secure against any one failing gate or latch of its own: each
+/// wrong output or check shows at its own step there too.
+pub fn mapped_registers_are_secure()
+    ensures secure { MappedRegistersAreSecure }
+{}
+
+/// A plan of a netlist, with its checks, rails and watched nets moved, is a plan of the netlist mapped cover by cover.
+pub fn mapped_plans_are_of_theirs()
+    ensures planned { MappedPlansAreOfTheirs }
 {}

@@ -1,13 +1,14 @@
 //! Netlists with registers, whatever their construction.
 ghost use Rattle.register_laws.specs.RegisterLaws.{MarksHoldWhatReaches, RegistersAreFaultSecure, RegistersAreSecure};
 
-/// A netlist whose groups are apart through registers, whose checker decides and which follows a source without a ring is secure for it
-/// against any one failing cell, whatever bits the cell gives at whatever steps.
+/// A netlist without a ring is secure for a source without a ring, which it follows, against any one failing cell, whatever bits the cell
+/// gives at whatever steps. Its structure must be this: each output stands in one group, groups are apart through registers, and the checker
+/// decides.
 pub fn registers_are_secure()
     ensures secure { RegistersAreSecure }
 {}
 
-/// It is secure against each listed fault, present at any steps.
+/// Without a ring, what is secure against any one failing cell is secure against each listed fault, present at any steps.
 pub fn registers_are_fault_secure()
     ensures secure { RegistersAreFaultSecure }
 {}

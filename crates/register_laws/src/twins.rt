@@ -9,9 +9,9 @@ pub fn twins_are_secure()
     ensures faults { TwinsAreFaultSecure }
 {}
 
-/// Where the check of the watch settles, the own registers with this check are odd exactly where an even number of registers differs
-/// from its copies. So in every valuation in which the checker settles too, the rails agree where an odd number of the watched registers
-/// differs.
+/// Where the bit of the check of the watch is as its chain says (exactly: where `WatchSettles` holds), the own registers with this check are
+/// odd exactly where an even number of registers differs from its copies. So of a check that meets `IsWatchOf`, and a checker that decides:
+/// the rails agree where an odd number of registers differs, in every valuation in which the nodes of the checker and of the check settle.
 pub fn differing_registers_are_heard()
     ensures counts { WatchCounts }
     ensures heard { WatchIsHeard }
