@@ -1,0 +1,11 @@
+pub mod Outside
+pub mod Secure
+pub mod CopyBits
+pub mod CopyReach
+pub mod TwinsSecure
+pub mod WatchParity
+pub mod PartRuns
+pub mod MappedRegisters
+pub mod SmallTwinCopies
+pub mod WrongTwinRuns
+pub mod NetworkSteps

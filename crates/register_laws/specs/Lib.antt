@@ -1,0 +1,11 @@
+pub mod RegisterPlan
+pub mod RegisterStructure
+pub mod RegisterSecure
+pub mod RegisterLaws
+pub mod Twin
+pub mod Watch
+pub mod Part
+pub mod RegisterMapping
+pub mod SmallTwin
+pub mod WrongTwins
+pub mod Networks
