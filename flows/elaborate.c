@@ -10,25 +10,14 @@
 
    Nothing of it is trusted: what it writes has to be checked. */
 #include <limits.h>
-#include <stdio.h>
-#include <stdlib.h>
-#include <string.h>
 
-typedef struct { int *items; size_t count, room; } List;
-
-static void push(List *list, int item) {
-    if (list->count == list->room) {
-        list->room = list->room ? 2 * list->room : 4;
-        list->items = realloc(list->items, list->room * sizeof(int));
-        if (!list->items) { fputs("elaborate: no memory\n", stderr); exit(2); }
-    }
-    list->items[list->count++] = item;
-}
+#define PROGRAM "elaborate"
+#include "clauses.h"
 
 // ---- clauses: those of the formula, then the lemmas; a literal is 2 * variable, and one more where it is negated
 
 static List literals, starts, hashes, next_alike, steps; // a step is a clause that is added, or ~clause for one that is deleted
-static int variables, formula, *first_alike;             // `first_alike` and `next_alike` chain clauses of the same hash
+static int formula, *first_alike;                        // `first_alike` and `next_alike` chain clauses of the same hash
 static unsigned char *wanted;                            // by the refutation
 static unsigned *stamp, now;                             // of literals, to compare clauses
 enum { SLOTS = 1 << 20, PASSED = INT_MIN };                // PASSED: a deletion that is passed over
@@ -36,7 +25,7 @@ enum { SLOTS = 1 << 20, PASSED = INT_MIN };                // PASSED: a deletion
 static int *of(int clause) { return literals.items + starts.items[clause]; }
 static int size_of(int clause) { return starts.items[clause + 1] - starts.items[clause]; }
 static int negated(int literal) { return literal ^ 1; }
-static int literal_of(long number) { return number < 0 ? -2 * number + 1 : 2 * number; }
+static int literal_of(int number) { return number < 0 ? -2 * number + 1 : 2 * number; }
 static int number_of(int literal) { return literal & 1 ? -(literal >> 1) : literal >> 1; }
 
 static unsigned hash_from(size_t start) {
@@ -73,40 +62,18 @@ static int take_alike(void) {
     return -1;
 }
 
-static char *text_of(const char *path) {
-    FILE *file = fopen(path, "rb");
-    if (!file) { fprintf(stderr, "elaborate: can't read %s\n", path); exit(2); }
-    fseek(file, 0, SEEK_END);
-    long size = ftell(file);
-    rewind(file);
-    char *text = malloc(size + 1);
-    if (!text || fread(text, 1, size, file) != (size_t)size) { fprintf(stderr, "elaborate: can't read %s\n", path); exit(2); }
-    text[size] = 0;
-    fclose(file);
-    return text;
-}
-
 static void read_all(const char *formula_path, const char *path) {
-    char *at = text_of(formula_path);
-    while (*at == 'c' || *at == 'p') {
-        if (*at == 'p') sscanf(at, "p cnf %d", &variables);
-        at = strchr(at, '\n') + 1;
-    }
+    char *at = clauses_of(formula_path);
     stamp = calloc(2 * variables + 2, sizeof *stamp);
     first_alike = malloc(SLOTS * sizeof *first_alike);
     memset(first_alike, -1, SLOTS * sizeof *first_alike);
     push(&starts, 0);
     for (int part = 0; part < 2; part++) {
         if (part) at = text_of(path), formula = starts.count - 1;
-        for (;;) {
-            while (*at == ' ' || *at == '\n') at++;
-            if (!*at) break;
+        while (is_more(&at)) {
             int deletes = *at == 'd';
             at += deletes;
-            for (long number; (number = strtol(at, &at, 10)) != 0;) {
-                if (labs(number) > variables) { fputs("elaborate: a literal above the formula's variables\n", stderr); exit(2); }
-                push(&literals, literal_of(number));
-            }
+            for (int number; (number = literal_at(&at)) != 0;) push(&literals, literal_of(number));
             int clause = deletes ? take_alike() : close_clause();
             if (part && clause >= 0) push(&steps, deletes ? ~clause : clause);
         }
@@ -128,7 +95,7 @@ static void watch(int literal, int clause, int other) {
     if (list->count == list->room) {
         list->room = list->room ? 2 * list->room : 4;
         list->items = realloc(list->items, list->room * sizeof(Watch));
-        if (!list->items) { fputs("elaborate: no memory\n", stderr); exit(2); }
+        if (!list->items) stop("no memory", "");
     }
     list->items[list->count++] = (Watch){clause, other};
 }

@@ -10,11 +10,9 @@
    the end), `no refutation` and `unfinished` are what it says else. RAT steps are refused.
 
    It is straight C that nothing is proved of. */
-#include <stdio.h>
-#include <stdlib.h>
-#include <string.h>
+#define PROGRAM "lrat"
+#include "clauses.h"
 
-static int variables;
 static signed char *value; // of variables, under the assumptions of a step
 static int *assigned, assigned_count;
 
@@ -30,19 +28,6 @@ static void says(const char *what) {
     if (strcmp(what, "yes") == 0 || strcmp(what, "unfinished") == 0 || strcmp(what, "no refutation") == 0) puts(what);
     else printf("line %d: %s\n", line, what);
     exit(strcmp(what, "yes") != 0);
-}
-
-static char *text_of(const char *path) {
-    FILE *file = fopen(path, "rb");
-    if (!file) { fprintf(stderr, "lrat: can't read %s\n", path); exit(2); }
-    fseek(file, 0, SEEK_END);
-    long size = ftell(file);
-    rewind(file);
-    char *text = malloc(size + 1);
-    if (!text || fread(text, 1, size, file) != (size_t)size) { fprintf(stderr, "lrat: can't read %s\n", path); exit(2); }
-    text[size] = 0;
-    fclose(file);
-    return text;
 }
 
 static int is_space(char c) { return c == ' ' || c == '\t' || c == '\r'; }
@@ -74,16 +59,16 @@ static void shorten(void) {
     clause_count = kept, deleted = 0;
 }
 
-static void add(long number, const int *literals, int size) {
+static void add(long number, const List *literals) {
     if (deleted > clause_count / 2) shorten();
     if (clause_count == clause_room) {
         clause_room = clause_room ? 2 * clause_room : 1024;
         clauses = realloc(clauses, clause_room * sizeof *clauses);
     }
-    int *own = malloc((size ? size : 1) * sizeof(int));
-    if (!clauses || !own) { fputs("lrat: no memory\n", stderr); exit(2); }
-    memcpy(own, literals, size * sizeof(int));
-    clauses[clause_count++] = (Clause){number, own, size};
+    int *own = malloc((literals->count + 1) * sizeof(int));
+    if (!clauses || !own) stop("no memory", "");
+    for (size_t k = 0; k < literals->count; k++) own[k] = literals->items[k];
+    clauses[clause_count++] = (Clause){number, own, literals->count};
 }
 
 static Clause *found(long number) {
@@ -121,22 +106,13 @@ static int follow(const Clause *hint) {
 }
 
 static void read_formula(const char *path) {
-    char *text = text_of(path);
-    while (*text == 'c' || *text == 'p') {
-        if (*text == 'p') sscanf(text, "p cnf %d", &variables);
-        text = strchr(text, '\n') + 1;
+    char *text = clauses_of(path);
+    List literals = {0};
+    for (long count = 0; is_more(&text); literals.count = 0) {
+        for (int literal; (literal = literal_at(&text)) != 0;) push(&literals, literal);
+        add(++count, &literals);
     }
-    int *literals = malloc((2 * variables + 1) * sizeof(int)), size = 0;
-    long count = 0;
-    for (;;) {
-        char *end;
-        long literal = strtol(text, &end, 10);
-        if (end == text) break;
-        text = end;
-        if (literal) literals[size++] = literal;
-        else add(++count, literals, size), size = 0;
-    }
-    free(literals);
+    free(literals.items);
     value = calloc(variables + 1, 1), assigned = malloc((variables + 1) * sizeof(int));
 }
 
@@ -144,7 +120,8 @@ int main(int count, char **words) {
     if (count != 3) { fputs("usage: lrat FORMULA REFUTATION\n", stderr); return 2; }
     read_formula(words[1]);
     long last = clause_count;
-    int some = 0, *literals = malloc(sizeof(int)), room = 1;
+    int some = 0;
+    List literals = {0};
     for (at = text_of(words[2]); *at; line++) {
         while (is_space(*at)) at++;
         if (*at && *at != '\n' && *at != 'c') {
@@ -159,16 +136,17 @@ int main(int count, char **words) {
                     clause->literals = NULL;
                 }
             } else {
-                int size = 0, is_false = 0;
+                int is_false = 0;
+                literals.count = 0;
                 if (name <= last) says("refutation shape");
                 for (long it; (it = number()) != 0;) {
                     if (labs(it) > variables) says("refutation shape");
-                    if (size == room) literals = realloc(literals, (room *= 2) * sizeof(int));
-                    literals[size++] = it;
+                    push(&literals, it);
                 }
-                for (int k = 0; k < size; k++) {
-                    if (bit_of(literals[k]) > 0) is_false = 1; // it has a literal and its negation
-                    else if (bit_of(literals[k]) == 0) assume(-literals[k]);
+                for (size_t k = 0; k < literals.count; k++) {
+                    int bit = bit_of(literals.items[k]);
+                    if (bit > 0) is_false = 1; // it has a literal and its negation
+                    else if (bit == 0) assume(-literals.items[k]);
                 }
                 for (long it; (it = number()) != 0;) {
                     if (it < 0) says("hint");
@@ -177,8 +155,9 @@ int main(int count, char **words) {
                 }
                 if (!is_false) says("hint");
                 while (assigned_count) value[assigned[--assigned_count]] = 0;
-                if (!size) says("yes");
-                add(name, literals, size);
+                end_of_line();
+                if (!literals.count) says("yes");
+                add(name, &literals);
                 last = name;
             }
             end_of_line();
