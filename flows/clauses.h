@@ -35,7 +35,7 @@ static char *text_of(const char *path) {
     return text;
 }
 
-// the formula's clauses, behind its comments and its head, which says how many variables there are
+// the formula's clauses, after its comments and its head, which says how many variables there are
 static char *clauses_of(const char *path) {
     char *at = text_of(path);
     for (; *at == 'c' || *at == 'p'; at += *at == '\n') {
@@ -45,7 +45,7 @@ static char *clauses_of(const char *path) {
     return at;
 }
 
-// whether more stands behind white space
+// whether more stands here, after white space
 static int is_more(char **at) {
     *at += strspn(*at, " \n");
     return **at != 0;
