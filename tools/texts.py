@@ -139,11 +139,11 @@ UNPROTECTED = "what a register holds is not protected then: a register that fail
 LANGUAGES = (
     (
         r"(`timescale|`default_nettype|`include|`define|module|macromodule|package|interface|typedef)\b|\(\*",
-        f"Verilog, which goes through Yosys first (read_verilog FILE; {FLATTEN}; docs/FLOWS.md)",
+        f"Verilog, which goes through Yosys first (read_verilog FILE; {FLATTEN}; docs/GUIDE.md)",
     ),
     (
         r"(?i)(library\s+\w+\s*;|use\s+\w+\.|entity\s+\w+\s+is\b)",
-        "VHDL, which goes through a synthesis first (GHDL with Yosys, and then as Verilog: docs/FLOWS.md)",
+        "VHDL, which goes through a synthesis first (GHDL with Yosys, and then as Verilog: docs/GUIDE.md)",
     ),
     (r"\(\s*edif\b", "EDIF; Yosys or ABC write BLIF"),
     (r"(INPUT|OUTPUT)\s*\(", "a .bench netlist of ISCAS (ABC: read_bench FILE; write_blif FILE)"),
