@@ -19,6 +19,7 @@
    which a group of the plan, or what is watched with its check, isn't odd. Status 0; 1 where one of silent, late, false, wrong and word
    isn't 0; 2 for words and files. */
 #define _POSIX_C_SOURCE 200809L
+#define TOOL "inject"
 #include "netlist.h"
 
 enum { LANES = 64, WORDS = 8 };

@@ -5,6 +5,10 @@
 #include <stdlib.h>
 #include <string.h>
 
+#ifndef TOOL
+#define TOOL "evaluate"
+#endif
+
 enum { PINS = 256, GROUPS = 64 };
 /* a latch or a node: the net that it drives, the nets that it reads, the rows of its cover, and whether these are the on-set; and whether a
    latch holds 1 first */
@@ -19,7 +23,7 @@ static list inputs, outputs, checks, groups[GROUPS], watched; /* watched: what a
 
 static void stop(const char *what, const char *which)
 {
-    fprintf(stderr, "evaluate: %s %s\n", what, which);
+    fprintf(stderr, TOOL ": %s %s\n", what, which);
     exit(2);
 }
 
