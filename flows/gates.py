@@ -11,7 +11,7 @@ CLEARED = re.compile(r"^\$_DFF_([NP])([NP])([01])_$")
 
 
 class Gates:
-    """The gates in an order in which each stands behind what it reads, and the registers: (what it gives, what it reads, its asynchronous
+    """The gates in an order in which each stands after what it reads, and the registers: (what it gives, what it reads, its asynchronous
     reset's net, the bit at which that acts, and the bit that it gives then)."""
 
     def __init__(self, module):
@@ -37,7 +37,7 @@ class Gates:
         self.drivers = gates
 
     def root(self, net):
-        """The net behind negations, and whether they negate it."""
+        """The net before negations, and whether they negate it."""
         negated = False
         while net in self.drivers and self.drivers[net][0] in (RULES["$_NOT_"], RULES["$_BUF_"]):
             rule, reads = self.drivers[net]
