@@ -33,6 +33,7 @@ static row *now, *state;      /* of each net in this step; of each latch */
 static row *down, *up;        /* of each net the lanes that hold it at 0, and at 1 */
 static int *flip_at;          /* the flips of this block by lane: the step, or -1 */
 static int *flip_net;
+static char *is_flipped;      /* of each net whether a flip of this block is of it */
 static uint64_t seed = 1;
 
 static uint64_t drawn(void)
@@ -138,7 +139,7 @@ static row flipped(int net, int step)
     return lanes;
 }
 
-static void settle(int step, const char *is_flipped)
+static void settle(int step)
 {
     for (int place = 0; place < cell_count; place++) {
         int c = order[place], net = cells[c].net;
@@ -188,7 +189,7 @@ static void count_plain(int step, row agree, row wrong)
 typedef struct { row silent, late, alarmed, asleep; } shown;
 
 /* the steps with the faults of this block */
-static shown run_block(const char *is_flipped, int is_first)
+static shown run_block(int is_first)
 {
     shown all = {{{0}}, {{0}}, {{0}}, {{0}}};
     row alarmed = {{0}};
@@ -201,7 +202,7 @@ static shown run_block(const char *is_flipped, int is_first)
         }
         for (int i = 0; i < width; i++)
             memset(&now[inputs.items[i]], lines[step][i + 1] == '1' ? 255 : 0, sizeof(row));
-        settle(step, is_flipped);
+        settle(step);
         row wrong = {{0}}, checked, held = {{0}}, agree;
         for (int o = 0; o < output_count; o++)
             if (!has_outputs || lines[step][width + 1 + o] != 'x')
@@ -242,34 +243,39 @@ static int number(const char *word, const char *option)
     char *end;
     long value = strtol(word, &end, 10);
     if (!*word || *end || value < 0 || value > 100000000)
-        stop("no number behind", option);
+        stop("no number after", option);
     return (int)value;
 }
 
-int main(int argc, char **argv)
+static const char *path, *given; /* the netlist, the steps */
+static int count = 2000, flips = 1000;
+
+static void read_words(int argc, char **argv)
 {
-    const char *path = NULL, *given = NULL;
-    int count = 2000, flips = 1000;
+    const char *words = "the words are NETLIST [-t STEPS] [-n COUNT] [-f FLIPS] [-s SEED] [-l]";
     for (int i = 1; i < argc; i++) {
-        if (!strcmp(argv[i], "-l"))
+        const char *word = argv[i], *value = i + 1 < argc ? argv[i + 1] : NULL;
+        if (word[0] != '-' && !path)
+            path = word;
+        else if (!strcmp(word, "-l"))
             is_listing = 1;
-        else if (argv[i][0] == '-' && argv[i][1] && strchr("tnfs", argv[i][1]) && !argv[i][2] && i + 1 < argc) {
-            char option = argv[i++][1];
-            if (option == 't')
-                given = argv[i];
-            else if (option == 'n')
-                count = number(argv[i], "-n");
-            else if (option == 'f')
-                flips = number(argv[i], "-f");
-            else
-                seed = number(argv[i], "-s") * UINT64_C(2654435761) + 88172645463325252u;
-        } else if (path || argv[i][0] == '-')
-            stop("the words are NETLIST [-t STEPS] [-n COUNT] [-f FLIPS] [-s SEED] [-l], not", argv[i]);
+        else if (word[0] != '-' || !word[1] || !strchr("tnfs", word[1]) || word[2] || !value)
+            stop(words, word);
+        else if (i++, word[1] == 't')
+            given = value;
+        else if (word[1] == 'n')
+            count = number(value, "-n");
+        else if (word[1] == 'f')
+            flips = number(value, "-f");
         else
-            path = argv[i];
+            seed = number(value, "-s") * UINT64_C(2654435761) + UINT64_C(88172645463325252);
     }
     if (!path || !count)
-        stop("the words are NETLIST [-t STEPS] [-n COUNT] [-f FLIPS] [-s SEED] [-l], and COUNT isn't 0", "");
+        stop(words, "");
+}
+
+static void prepare(void)
+{
     if (!freopen(path, "r", stdin))
         stop("no file", path);
     read_netlist();
@@ -287,31 +293,47 @@ int main(int argc, char **argv)
     now = calloc(net_count + 1, sizeof(row)), state = calloc(latch_count + 1, sizeof(row));
     down = calloc(net_count + 1, sizeof(row)), up = calloc(net_count + 1, sizeof(row));
     flip_at = malloc(LANES * WORDS * sizeof(int)), flip_net = calloc(LANES * WORDS, sizeof(int));
-    char *is_flipped = calloc(net_count + 1, 1);
-    long silent = 0, late = 0, alarms = 0, unseen = 0, asleep = 0;
+    is_flipped = calloc(net_count + 1, 1);
+}
+
+/* the lane of the fault at this place of a block: lane 0 of each word has none */
+static int lane_of(int place) { return place / (LANES - 1) * LANES + place % (LANES - 1) + 1; }
+
+/* puts the faults from this one on into the lanes: how many there are */
+static int put_block(int from)
+{
+    int place = 0;
+    memset(down, 0, (net_count + 1) * sizeof(row)), memset(up, 0, (net_count + 1) * sizeof(row));
+    memset(is_flipped, 0, net_count + 1), memset(flip_at, 255, LANES * WORDS * sizeof(int));
+    for (; place < (LANES - 1) * WORDS && from + place < fault_count; place++) {
+        fault f = faults[from + place];
+        int lane = lane_of(place);
+        if (f.held == 2)
+            flip_at[lane] = f.step, flip_net[lane] = f.net, is_flipped[f.net] = 1;
+        else
+            (f.held ? up : down)[f.net].w[lane / LANES] |= UINT64_C(1) << lane % LANES;
+    }
+    return place;
+}
+
+int main(int argc, char **argv)
+{
+    long silent = 0, late = 0, alarmed = 0, unseen = 0, asleep = 0;
+    read_words(argc, argv);
+    prepare();
     for (int from = 0; from < fault_count || !from; from += (LANES - 1) * WORDS) {
-        memset(down, 0, (net_count + 1) * sizeof(row)), memset(up, 0, (net_count + 1) * sizeof(row));
-        memset(is_flipped, 0, net_count + 1), memset(flip_at, 255, LANES * WORDS * sizeof(int));
-        for (int k = 0; k < (LANES - 1) * WORDS && from + k < fault_count; k++) {
-            fault f = faults[from + k];
-            int lane = k / (LANES - 1) * LANES + k % (LANES - 1) + 1;
-            if (f.held == 2)
-                flip_at[lane] = f.step, flip_net[lane] = f.net, is_flipped[f.net] = 1;
-            else
-                (f.held ? up : down)[f.net].w[lane / LANES] |= UINT64_C(1) << lane % LANES;
-        }
-        shown all = run_block(is_flipped, !from);
-        for (int k = 0; k < (LANES - 1) * WORDS && from + k < fault_count; k++) {
-            int lane = k / (LANES - 1) * LANES + k % (LANES - 1) + 1;
-            int is_silent = has(all.silent, lane), is_late = has(all.late, lane), is_alarmed = has(all.alarmed, lane);
-            int is_asleep = !is_silent && !is_alarmed && has(all.asleep, lane);
-            silent += is_silent, late += is_late, alarms += is_alarmed && !is_silent;
-            unseen += !is_silent && !is_alarmed, asleep += is_asleep;
+        int block = put_block(from);
+        shown all = run_block(!from);
+        for (int place = 0; place < block; place++) {
+            int lane = lane_of(place), is_silent = has(all.silent, lane), is_late = has(all.late, lane);
+            int is_alarmed = !is_silent && has(all.alarmed, lane), is_unseen = !is_silent && !is_alarmed;
+            int is_asleep = is_unseen && has(all.asleep, lane);
+            silent += is_silent, late += is_late, alarmed += is_alarmed, unseen += is_unseen, asleep += is_asleep;
             if (is_listing)
-                list_fault(faults[from + k], is_silent ? "silent" : is_late ? "late" : is_alarmed ? "alarm" : is_asleep ? "asleep" : "unseen");
+                list_fault(faults[from + place], is_silent ? "silent" : is_late ? "late" : is_alarmed ? "alarm" : is_asleep ? "asleep" : "unseen");
         }
     }
     printf("faults %d silent %ld late %ld alarmed %ld unseen %ld asleep %ld, runs %ld steps %d false %ld wrong %ld word %ld\n", fault_count,
-           silent, late, alarms, unseen, asleep, runs, steps, falses, wrongs, words);
+           silent, late, alarmed, unseen, asleep, runs, steps, falses, wrongs, words);
     return silent || late || falses || wrongs || words;
 }
