@@ -12,6 +12,7 @@ class Model:
     def __init__(self, name):
         self.name, self.inputs, self.outputs, self.plan = name, [], [], []
         self.latches = []  # what it reads, what it gives, and its first bit
+        self.clock = []  # the type and the control that the latches' lines have
         self.covers = []  # what it gives, what it reads, and its rows
         self.calls = []  # the name of a cell or model, and its nets by pin
         self.wires = {}  # of a net that is another one's wire that other one (.conn)
@@ -42,6 +43,7 @@ def models_of(path):
             model.covers.append((words[-1], words[1:-1], []))
         elif kind == ".latch":
             model.latches.append((words[1], words[2], words[-1]))
+            model.clock = words[3:5] if len(words) == 6 else []
         elif kind in (".subckt", ".gate"):
             model.calls.append((words[1], dict(it.split("=", 1) for it in words[2:])))
         elif kind == ".conn":
@@ -57,7 +59,7 @@ def models_of(path):
 
 def text_of(model):
     lines = [f".model {model.name}", " ".join([".inputs", *model.inputs]), " ".join([".outputs", *model.outputs]), *model.plan]
-    lines += [f".latch {reads} {net} {first}" for reads, net, first in model.latches]
+    lines += [" ".join([".latch", reads, net, *model.clock, first]) for reads, net, first in model.latches]
     for name, nets in model.calls:
         lines.append(" ".join([".subckt", name, *(f"{pin}={net}" for pin, net in nets.items())]))
     for net, reads, rows in model.covers:
@@ -67,7 +69,7 @@ def text_of(model):
 
 def named_nets(model):
     """The nets that the plan lines name, each once."""
-    named = [net for line in model.plan for net in line.split()[2:] if line.split()[1] in ("group", "check")]
+    named = [net for line in model.plan for net in line.split()[2:] if line.split()[1] in ("group", "check", "watch")]
     return list(dict.fromkeys(named))
 
 
@@ -120,6 +122,8 @@ def fresh_names(taken):
 
 def rename(model, name):
     """Each net of the model by its new name."""
+    if model.clock and model.clock[1] in model.inputs:
+        model.clock = [model.clock[0], name(model.clock[1])]
     model.inputs, model.outputs = list(map(name, model.inputs)), list(map(name, model.outputs))
     model.latches = [(name(reads), name(gives), first) for reads, gives, first in model.latches]
     model.covers = [(name(gives), list(map(name, reads)), rows) for gives, reads, rows in model.covers]

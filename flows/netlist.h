@@ -1,24 +1,29 @@
-/* Reads a netlist with its #tsc lines for evaluate.c: its cells, which are latches and nodes, the order in which they settle, and its
-   plan. A name of a net is looked for from the latest on, since most are read near where they are driven. */
+/* Reads a netlist with its #tsc lines for evaluate.c and inject.c: its cells, which are latches and nodes, the order in which they settle,
+   and its plan. A name of a net is looked for from the latest on, since most are read near where they are driven. */
 #include <stdint.h>
 #include <stdio.h>
 #include <stdlib.h>
 #include <string.h>
 
+#ifndef TOOL
+#define TOOL "evaluate"
+#endif
+
 enum { PINS = 256, GROUPS = 64 };
-/* a latch or a node: the net that it drives, the nets that it reads, the rows of its cover, and whether these are the on-set */
-typedef struct { int latch, net, pins, *reads, rows, on; char **cubes; } cell;
+/* a latch or a node: the net that it drives, the nets that it reads, the rows of its cover, and whether these are the on-set; and whether a
+   latch holds 1 first */
+typedef struct { int latch, net, pins, *reads, rows, on, first; char **cubes; } cell;
 typedef struct { int *items, count; } list;
 
 static char **names, code, **states; /* of nets; the first letter of the code; the words of the states */
 static int net_count, cell_count, state_count, group_count;
 static cell *cells; /* in text order, latches before nodes */
 static int *order;  /* the cells, each behind those that it reads */
-static list inputs, outputs, checks, groups[GROUPS];
+static list inputs, outputs, checks, groups[GROUPS], watched; /* watched: what a line `#tsc watch` names */
 
 static void stop(const char *what, const char *which)
 {
-    fprintf(stderr, "evaluate: %s %s\n", what, which);
+    fprintf(stderr, TOOL ": %s %s\n", what, which);
     exit(2);
 }
 
@@ -52,6 +57,9 @@ static void plan_line(char **word, int count)
     if (count > 1 && !strcmp(word[0], "state")) {
         states = grown(states, state_count, sizeof *states);
         states[state_count++] = word[1];
+    } else if (!strcmp(word[0], "watch")) {
+        for (int i = 1; i < count; i++)
+            push(&watched, net_of(word[i]));
     } else if (!strcmp(word[0], "group") || !strcmp(word[0], "check")) {
         if (group_count == GROUPS)
             stop("too many groups", "");
@@ -72,6 +80,7 @@ static void new_cell(char **word, int count)
     cells[cell_count] = (cell){.latch = latch, .on = 1, .pins = pins, .net = net_of(word[1 + pins]), .reads = calloc(pins + 1, sizeof(int))};
     for (int i = 0; i < pins; i++)
         cells[cell_count].reads[i] = net_of(word[1 + i]);
+    cells[cell_count].first = latch && !strcmp(word[count - 1], "1");
     cell_count++;
 }
 
