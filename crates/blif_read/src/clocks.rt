@@ -197,7 +197,11 @@ fn first_clock(alloc: Global, section: &SectionLines) -> Result<Option<Clock>, A
 /// # Errors
 ///
 /// Want of memory.
-pub fn clock_of(alloc: Global, section: &SectionLines, kind: Kind) -> Result<Option<Clock>, AllocError>
+pub fn clock_of(
+    alloc: Global,
+    section: &SectionLines,
+    kind: Kind,
+) -> Result<Option<Clock>, AllocError>
     ensures clock { IfOk result (λ clock. clock ≡ clock_text kind section.now) }
 {
     match kind {

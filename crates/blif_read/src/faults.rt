@@ -182,7 +182,8 @@ fn has_any_init(line: &TextLine) -> bool
     ensures init { result ≡ has_any_init line.now }
 {
     let words = line.words();
-    (words == 4 || words == 6) && (is_bit_word(line.word(words - 1)) || is_word(line.word(words - 1), b"2"))
+    (words == 4 || words == 6)
+        && (is_bit_word(line.word(words - 1)) || is_word(line.word(words - 1), b"2"))
 }
 
 /// The fault of a line of `.latch`.

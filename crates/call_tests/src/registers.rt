@@ -6,25 +6,68 @@ use tsc_io::Bytes;
 use tsc_text::{End, LONGEST, Lines};
 
 /// Two registers on the rising edge of one clock, of which the second holds either bit first.
-const TWO: &[u8] = b".model ex\n.inputs clk a b\n.outputs y z\n.latch n1 p re clk 1\n.latch p q re clk 2\n.names a q n1\n11 1\n.names p b y\n1- 1\n-1 1\n.names q z\n0 1\n.end\n";
+const TWO: &[u8] =
+    b".model ex\n.inputs clk a b\n.outputs y z\n.latch n1 p re clk 1\n.latch p q re clk 2\n.names a q n1\n11 1\n.names p b y\n1- 1\n-1 1\n.names q z\n0 1\n.end\n";
 
 /// Texts, and what is said of each.
 static REFUSED: [(&[u8], &str); 15] = [
-    (b".inputs a\n.outputs q\n.latch a q ah c 0\n", "line 3: latch clock"),
-    (b".inputs a\n.outputs q\n.latch a q xx c 0\n", "line 3: word count"),
-    (b".inputs a\n.outputs q\n.latch a q re c\n", "line 3: latch init"),
-    (b".inputs a\n.outputs q\n.latch a q 3\n", "line 3: latch init"),
+    (
+        b".inputs a\n.outputs q\n.latch a q ah c 0\n",
+        "line 3: latch clock",
+    ),
+    (
+        b".inputs a\n.outputs q\n.latch a q xx c 0\n",
+        "line 3: word count",
+    ),
+    (
+        b".inputs a\n.outputs q\n.latch a q re c\n",
+        "line 3: latch init",
+    ),
+    (
+        b".inputs a\n.outputs q\n.latch a q 3\n",
+        "line 3: latch init",
+    ),
     (b".inputs a\n.outputs q\n.latch a q\n", "line 3: latch init"),
-    (b".inputs a\n.outputs q r\n.latch a q 0\n.latch a r re c 3\n", "line 4: latch clock"),
-    (b".inputs a\n.outputs q r\n.latch a q re c 0\n.latch a r 0\n", "line 4: latch clock"),
-    (b".inputs a\n.outputs q r\n.latch a q re c 0\n.latch a r fe c 0\n", "line 4: latch clock"),
-    (b".inputs a\n.outputs q r\n.latch a q re c 0\n.latch a r re d 0\n", "line 4: latch clock"),
-    (b".inputs a\n.outputs q r\n.latch a q re c 0\n.latch a r re d\n.gate x\n", "line 4: latch clock"),
-    (b".inputs a\n.outputs q r\n.latch a q re c 3\n.latch a r re d 0\n", "line 3: latch init"),
-    (b".inputs a c\n.outputs q\n.latch c q re c 0\n", "line 3: latch clock"),
-    (b".inputs a c\n.outputs q c\n.latch a q re c 0\n", "line 3: latch clock"),
-    (b".inputs a\n.outputs q\n.latch a q re c 0\n.names a c\n1 1\n", "line 3: latch clock"),
-    (b".inputs a\n.outputs q\n.latch b q re c 0\n.names a c\n1 1\n", "undriven: b"),
+    (
+        b".inputs a\n.outputs q r\n.latch a q 0\n.latch a r re c 3\n",
+        "line 4: latch clock",
+    ),
+    (
+        b".inputs a\n.outputs q r\n.latch a q re c 0\n.latch a r 0\n",
+        "line 4: latch clock",
+    ),
+    (
+        b".inputs a\n.outputs q r\n.latch a q re c 0\n.latch a r fe c 0\n",
+        "line 4: latch clock",
+    ),
+    (
+        b".inputs a\n.outputs q r\n.latch a q re c 0\n.latch a r re d 0\n",
+        "line 4: latch clock",
+    ),
+    (
+        b".inputs a\n.outputs q r\n.latch a q re c 0\n.latch a r re d\n.gate x\n",
+        "line 4: latch clock",
+    ),
+    (
+        b".inputs a\n.outputs q r\n.latch a q re c 3\n.latch a r re d 0\n",
+        "line 3: latch init",
+    ),
+    (
+        b".inputs a c\n.outputs q\n.latch c q re c 0\n",
+        "line 3: latch clock",
+    ),
+    (
+        b".inputs a c\n.outputs q c\n.latch a q re c 0\n",
+        "line 3: latch clock",
+    ),
+    (
+        b".inputs a\n.outputs q\n.latch a q re c 0\n.names a c\n1 1\n",
+        "line 3: latch clock",
+    ),
+    (
+        b".inputs a\n.outputs q\n.latch b q re c 0\n.names a c\n1 1\n",
+        "undriven: b",
+    ),
 ];
 
 /// What the first section of a text denotes.
