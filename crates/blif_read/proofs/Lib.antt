@@ -7,8 +7,10 @@ pub mod NameGrowth
 pub mod NamedMore
 pub mod CleanLines
 pub mod NamedLines
+pub mod LineFaults
 pub mod Refused
 pub mod PlanWalk
+pub mod ClockWalk
 pub mod Collected
 pub mod RuleWalk
 pub mod Shares

@@ -2,11 +2,11 @@
 use Rattle.std.proofs.Common.{◌≡◌, ℕ, ◌+◌, ◌-◌, ◌<◌, ◌≤◌, Bool, true, false, List, [], ◌∷◌, length, arith, refl, ap, subst, None, Some, sym, if◌then◌else◌, length-drop, drop}
 use Rattle.tsc_text.specs.TextLine.{TextLine, no_line, the_line, the_word}
 use Rattle.blif_read.specs.LineKind.{kind_of, names_of}
-use Rattle.blif_read.specs.Seen.{seen_of, seen_behind, IsWithin}
-use Rattle.blif_read.specs.Faults.{fault_of, fault_behind, limit, limit_in, most_outputs, latch_fault, latch_limit, has_init, has_latch_shape, shaped_latch_fault, is_long}
+use Rattle.blif_read.specs.Seen.{seen_of, seen_behind}
+use Rattle.blif_read.specs.Faults.{fault_of, fault_behind, limit, limit_in, most_outputs, latch_fault, latch_limit, has_any_init, has_init, has_latch_shape, most_latches, shaped_latch_fault, is_long, IsWithin}
 use Rattle.blif_read.specs.FirstFault.{fault_or, first_fault_behind, first_fault_after}
 use Rattle.blif_read.specs.declared.kinds.Kind.{Kind}
-use Rattle.blif_read.specs.declared.kinds.Kind.TheVariants.{Source, Netlist, Unplanned}
+use Rattle.blif_read.specs.declared.kinds.Kind.TheVariants.{Source, Registers, Netlist, Unplanned}
 use Rattle.blif_read.specs.declared.kinds.LineKind.{LineKind}
 use Rattle.blif_read.specs.declared.kinds.LineKind.TheVariants.{Inputs, Outputs, Latch}
 use Rattle.blif_read.specs.declared.cause.Cause.{Cause}
@@ -39,7 +39,7 @@ pub fault_end : (kind : Kind) (seen : Seen) (lines : List TextLine) (at : ℕ) �
 fault_end kind seen lines at h = rw (drop_all at lines h) refl
 
 -- lines without a fault keep the counts
-pub inputs_fit : (kind : Kind) (seen : Seen) (k : LineKind) (line : TextLine) → Inputs ≡ k → fault_of kind seen k line ≡ None → IsWithin seen
+pub inputs_fit : (kind : Kind) (seen : Seen) (k : LineKind) (line : TextLine) → Inputs ≡ k → fault_of kind seen k line ≡ None → IsWithin kind seen
     → seen.inputs + (length line.words - 1) ≤ 1024
 inputs_fit kind seen k line e f within =
     let g : fault_of kind seen Inputs line ≡ None = subst (λ k. fault_of kind seen k line ≡ None) (sym e) f in
@@ -47,7 +47,7 @@ inputs_fit kind seen k line e f within =
     let m : seen.inputs + length (drop 1 line.words) ≤ 1024 = limit_in_fits InputCount 1024 seen.inputs 1024 (names_of line) (omega arith) within.inputs n in
     omega (arith, m, length-drop 1 line.words)
 
-pub outputs_fit : (kind : Kind) (seen : Seen) (k : LineKind) (line : TextLine) → Outputs ≡ k → fault_of kind seen k line ≡ None → IsWithin seen
+pub outputs_fit : (kind : Kind) (seen : Seen) (k : LineKind) (line : TextLine) → Outputs ≡ k → fault_of kind seen k line ≡ None → IsWithin kind seen
     → seen.outputs + (length line.words - 1) ≤ 66
 outputs_fit kind seen k line e f within =
     let g : fault_of kind seen Outputs line ≡ None = subst (λ k. fault_of kind seen k line ≡ None) (sym e) f in
@@ -57,32 +57,35 @@ outputs_fit kind seen k line e f within =
   where
     most : (kind : Kind) → most_outputs kind ≤ 66
     most Source = omega arith
+    most Registers = omega arith
     most Netlist = omega arith
     most Unplanned = omega arith
 
 -- the name that a latch without a fault gives passes no limit
 pub latch_out_limit : (kind : Kind) (seen : Seen) (line : TextLine) → latch_fault kind seen line ≡ None
-    → limit_in LatchCount 64 seen.latches (the_word line 2 ∷ []) ≡ None
+    → limit_in LatchCount (most_latches kind) seen.latches (the_word line 2 ∷ []) ≡ None
 latch_out_limit kind seen line e = by kind (has_latch_shape line) e
   where
-    counted : (b : Bool) → (if b then Some NameBytes else limit_in LatchCount 64 seen.latches (the_word line 2 ∷ [])) ≡ None
-        → limit_in LatchCount 64 seen.latches (the_word line 2 ∷ []) ≡ None
-    counted true e = cc
-    counted false e = e
+    counted : (kind : Kind) (b : Bool) → (if b then Some NameBytes else limit_in LatchCount (most_latches kind) seen.latches (the_word line 2 ∷ [])) ≡ None
+        → limit_in LatchCount (most_latches kind) seen.latches (the_word line 2 ∷ []) ≡ None
+    counted kind true e = cc
+    counted kind false e = e
 
-    init : (c : Bool) → (if c then limit (latch_limit seen line) else Some LatchInit) ≡ None → limit_in LatchCount 64 seen.latches (the_word line 2 ∷ []) ≡ None
-    init false e = cc
-    init true e = counted (is_long (the_word line 1)) (limit_none (latch_limit seen line) e)
+    init : (kind : Kind) (c : Bool) → (if c then limit (latch_limit kind seen line) else Some LatchInit) ≡ None
+        → limit_in LatchCount (most_latches kind) seen.latches (the_word line 2 ∷ []) ≡ None
+    init kind false e = cc
+    init kind true e = counted kind (is_long (the_word line 1)) (limit_none (latch_limit kind seen line) e)
 
     by : (kind : Kind) (b : Bool) → (if b then shaped_latch_fault kind seen line else Some WordCount) ≡ None
-        → limit_in LatchCount 64 seen.latches (the_word line 2 ∷ []) ≡ None
+        → limit_in LatchCount (most_latches kind) seen.latches (the_word line 2 ∷ []) ≡ None
     by kind false e = cc
     by Source true e = cc
-    by Netlist true e = init (has_init line) e
-    by Unplanned true e = init (has_init line) e
+    by Registers true e = init Registers (has_any_init line) e
+    by Netlist true e = init Netlist (has_init line) e
+    by Unplanned true e = init Unplanned (has_init line) e
 
-pub latches_fit : (kind : Kind) (seen : Seen) (k : LineKind) (line : TextLine) → Latch ≡ k → fault_of kind seen k line ≡ None → IsWithin seen
-    → seen.latches + 1 ≤ 64
+pub latches_fit : (kind : Kind) (seen : Seen) (k : LineKind) (line : TextLine) → Latch ≡ k → fault_of kind seen k line ≡ None → IsWithin kind seen
+    → seen.latches + 1 ≤ most_latches kind
 latches_fit kind seen k line e f within =
     let g : fault_of kind seen Latch line ≡ None = subst (λ k. fault_of kind seen k line ≡ None) (sym e) f in
-    limit_in_fits LatchCount 64 seen.latches 64 (the_word line 2 ∷ []) (omega arith) within.latches (latch_out_limit kind seen line g)
+    limit_in_fits LatchCount (most_latches kind) seen.latches (most_latches kind) (the_word line 2 ∷ []) (omega arith) within.latches (latch_out_limit kind seen line g)

@@ -8,7 +8,7 @@ use Rattle.tsc_text.specs.TextLine.{TextLine, the_word}
 use Rattle.blif_read.specs.LineKind.{kind_of, kind_of_word, name_count, names_of, net_of}
 use Rattle.blif_read.specs.NamedText.{input_names, inputs_of, latches_at, latches_of, model_at, model_or, name_or, named_text, nodes_at, nodes_of}
 use Rattle.blif_read.specs.Seen.{seen_behind, seen_of}
-use Rattle.blif_read.specs.Faults.{fault_of, is_long, limit_in, model_fault, most_nodes}
+use Rattle.blif_read.specs.Faults.{fault_of, is_long, limit_in, model_fault, most_latches, most_nodes}
 use Rattle.blif_read.specs.FirstFault.{first_fault, first_fault_after}
 use Rattle.blif_read.specs.declared.cause.Cause.TheVariants.{Limit, Unsupported, WordCount}
 use Rattle.tsc_text.specs.declared.which.Which.{Which}
@@ -122,7 +122,7 @@ module _ (P : List ℕ → Type 0) where
       → fault_of limits seen kind line ≡ None → HasNamesAt kind line → All GivesName (latches_at kind line)
   latches_here limits seen Latch line e h =
       let some : 3 ≤ length line.words = latch_line limits seen line e in
-      let short : IsShort (the_word line 2) = one_short LatchCount 64 seen.latches (the_word line 2) (latch_out_limit limits seen line e) in
+      let short : IsShort (the_word line 2) = one_short LatchCount (most_latches limits) seen.latches (the_word line 2) (latch_out_limit limits seen line e) in
       All-cons GivesName _ [] (h 2 [] (omega (arith, some)), short) (All-nil GivesName)
   latches_here limits seen PlanLine line e h = All-nil GivesName
   latches_here limits seen Model line e h = All-nil GivesName

@@ -1,15 +1,17 @@
 -- What a section denotes, and why it is refused.
-use Rattle.std.specs.Prelude.{◌≡◌, List, Option, None, Some}
+use Rattle.std.specs.Prelude.{◌≡◌, ℕ, List, Option, None, Some}
 use Rattle.fault_secure.specs.CodePlan.{CodePlan}
 use Rattle.tsc_net.specs.NetlistOf.{NetlistOf, named_of, netlist_of}
 use Rattle.tsc_text.specs.TextLine.{TextLine}
 use Rattle.blif_read.specs.NamedText.{named_text}
 use Rattle.blif_read.specs.PlanText.{code_line, plan_with}
 use Rattle.blif_read.specs.PlanFault.{plan_refusal}
+use Rattle.blif_read.specs.Clocks.{used_clock}
 use Rattle.blif_read.specs.Refusal.{first_refusal, netlist_refusal}
 use Rattle.blif_read.specs.declared.kinds.Kind.{Kind}
-use Rattle.blif_read.specs.declared.kinds.Kind.TheVariants.{Source, Netlist, Unplanned}
+use Rattle.blif_read.specs.declared.kinds.Kind.TheVariants.{Source, Registers, Netlist, Unplanned}
 use Rattle.blif_read.specs.declared.error.BlifError.{BlifError}
+use Rattle.blif_read.specs.declared.error.BlifError.TheVariants.{LatchClock}
 
 -- the plan that lines state for a netlist, where they have a code line
 abbrev pub plan_at : Option TextLine → List TextLine → NetlistOf → Option CodePlan
@@ -19,6 +21,7 @@ plan_at (Some head) lines net = Some (plan_with head lines net)
 -- the plan of the lines: a source has none, and of a netlist without a plan none is read
 abbrev pub plan_text : Kind → List TextLine → NetlistOf → Option CodePlan
 plan_text Source lines net = None
+plan_text Registers lines net = None
 plan_text Unplanned lines net = None
 plan_text Netlist lines net = plan_at (code_line lines) lines net
 
@@ -30,12 +33,18 @@ pub record DenotesNetlist (lines : List TextLine) (net : NetlistOf) (plan : Code
   pub named : named_of net ≡ named_text lines
   pub planned : plan_text Netlist lines net ≡ Some plan
 
--- the refusal of a plan, where one is read
+-- the refusal of a clock that a line gives or reads
+abbrev pub clock_refusal : Option ℕ → Option BlifError
+clock_refusal None = None
+clock_refusal (Some line) = Some (LatchClock line)
+
+-- the refusal of a plan, where one is read, and of the clock of registers
 abbrev pub refusal_of_plan : Kind → List TextLine → Option BlifError
 refusal_of_plan Source lines = None
+refusal_of_plan Registers lines = clock_refusal (used_clock lines)
 refusal_of_plan Unplanned lines = None
 refusal_of_plan Netlist lines = plan_refusal lines (netlist_of (named_text lines))
 
--- the refusal of a section: of a line, of its netlist, of its plan. It has a reading where there is none
+-- the refusal of a section: of a line, of its netlist, of its plan or its clock. It has a reading where there is none
 abbrev pub refusal : Kind → List TextLine → Option BlifError
 refusal kind lines = first_refusal (netlist_refusal kind lines) (refusal_of_plan kind lines)

@@ -1,5 +1,5 @@
 -- What is refused while the lines of a section are read.
-use Rattle.std.specs.Prelude.{ℕ, ◌+◌, ◌-◌, Bool, false, not, ◌&&◌, ◌||◌, ◌==◌, if◌then◌else◌, List, [], ◌∷◌, codes, length, nat_le, nat_lt, Option, None, Some}
+use Rattle.std.specs.Prelude.{ℕ, ◌+◌, ◌-◌, ◌≤◌, Bool, false, not, ◌&&◌, ◌||◌, ◌==◌, if◌then◌else◌, List, [], ◌∷◌, codes, length, nat_le, nat_lt, Option, None, Some}
 use Rattle.std.specs.Str.{bytes_eq}
 use Rattle.tsc_bits.specs.Bits.{same}
 use Rattle.tsc_text.specs.TextLine.{TextLine, the_word}
@@ -10,7 +10,7 @@ use Rattle.blif_read.specs.PlanLines.{plan_kind, has_plan_shape}
 use Rattle.blif_read.specs.declared.kinds.LineKind.{LineKind}
 use Rattle.blif_read.specs.declared.kinds.LineKind.TheVariants.{PlanLine, Model, Inputs, Outputs, Names, Latch, OtherDirective, Row}
 use Rattle.blif_read.specs.declared.kinds.Kind.{Kind}
-use Rattle.blif_read.specs.declared.kinds.Kind.TheVariants.{Source, Netlist, Unplanned}
+use Rattle.blif_read.specs.declared.kinds.Kind.TheVariants.{Source, Registers, Netlist, Unplanned}
 use Rattle.blif_read.specs.declared.cause.Cause.{Cause}
 use Rattle.blif_read.specs.declared.cause.Cause.TheVariants.{Unsupported, WordCount, RowOutside, RowShape, Mixed, LatchInSource, LatchInit, PlanShape, Limit}
 use Rattle.tsc_text.specs.declared.which.Which.{Which}
@@ -22,7 +22,7 @@ use Rattle.blif_read.specs.declared.seen.Seen.{Seen}
 abbrev pub most_name_bytes : ℕ
 most_name_bytes = 255
 
--- the greatest numbers of inputs, of pins of a line of `.names` and of latches
+-- the greatest number of inputs
 abbrev pub most_inputs : ℕ
 most_inputs = 1024
 
@@ -30,19 +30,24 @@ most_inputs = 1024
 abbrev pub most_pins : ℕ
 most_pins = 64
 
--- the greatest number of latches
-abbrev pub most_latches : ℕ
-most_latches = 64
+-- the greatest number of latches; a source without registers has none
+abbrev pub most_latches : Kind → ℕ
+most_latches Source = 64
+most_latches Registers = 16384
+most_latches Netlist = 64
+most_latches Unplanned = 64
 
--- the greatest numbers of outputs and of nodes
+-- the greatest number of outputs
 abbrev pub most_outputs : Kind → ℕ
 most_outputs Source = 64
+most_outputs Registers = 64
 most_outputs Netlist = 66
 most_outputs Unplanned = 66
 
 -- the greatest number of nodes
 abbrev pub most_nodes : Kind → ℕ
 most_nodes Source = 16384
+most_nodes Registers = 16384
 most_nodes Netlist = 1048576
 most_nodes Unplanned = 1048576
 
@@ -93,16 +98,22 @@ has_latch_shape line =
 abbrev pub has_init : TextLine → Bool
 has_init line = (name_count line == 3 || name_count line == 5) && is_bit_word (the_word line (length line.words - 1))
 
+-- the same, or the word is `2`: either bit will do
+abbrev pub has_any_init : TextLine → Bool
+has_any_init line =
+    (name_count line == 3 || name_count line == 5) && (is_bit_word (the_word line (length line.words - 1)) || bytes_eq (the_word line (length line.words - 1)) (codes "2"))
+
 -- the limit that the names of a latch or the count of latches pass
-abbrev pub latch_limit : Seen → TextLine → Option Which
-latch_limit seen line =
-    if is_long (the_word line 1) then Some NameBytes else limit_in LatchCount most_latches seen.latches (the_word line 2 ∷ [])
+abbrev pub latch_limit : Kind → Seen → TextLine → Option Which
+latch_limit kind seen line =
+    if is_long (the_word line 1) then Some NameBytes else limit_in LatchCount (most_latches kind) seen.latches (the_word line 2 ∷ [])
 
 -- the fault of a line of `.latch` that has its shape
 abbrev pub shaped_latch_fault : Kind → Seen → TextLine → Option Cause
 shaped_latch_fault Source seen line = Some LatchInSource
-shaped_latch_fault Netlist seen line = if has_init line then limit (latch_limit seen line) else Some LatchInit
-shaped_latch_fault Unplanned seen line = if has_init line then limit (latch_limit seen line) else Some LatchInit
+shaped_latch_fault Registers seen line = if has_any_init line then limit (latch_limit Registers seen line) else Some LatchInit
+shaped_latch_fault Netlist seen line = if has_init line then limit (latch_limit Netlist seen line) else Some LatchInit
+shaped_latch_fault Unplanned seen line = if has_init line then limit (latch_limit Unplanned seen line) else Some LatchInit
 
 -- the fault of a line of `.latch`: that of a line with its shape, and without the shape `WordCount`
 abbrev pub latch_fault : Kind → Seen → TextLine → Option Cause
@@ -122,6 +133,7 @@ row_fault (Some cover) line =
 -- the fault of a plan line; those of a source, and of a netlist without a plan, are passed over
 abbrev pub plan_line_fault : Kind → Seen → TextLine → Option Cause
 plan_line_fault Source seen line = None
+plan_line_fault Registers seen line = None
 plan_line_fault Unplanned seen line = None
 plan_line_fault Netlist seen line = if has_plan_shape (plan_kind (the_word line 0)) seen.has_plan line then None else Some PlanShape
 
@@ -139,3 +151,10 @@ fault_of kind seen Row line = row_fault seen.cover line
 -- the fault of a line after these lines, the nearest first
 abbrev pub fault_behind : Kind → List TextLine → TextLine → Option Cause
 fault_behind kind back line = fault_of kind (seen_of back) (kind_of line) line
+
+-- the counts keep the greatest limits; those of nodes and latches are the kind's
+pub record IsWithin (kind : Kind) (seen : Seen) : Type 0 where
+  pub inputs : seen.inputs ≤ most_inputs
+  pub outputs : seen.outputs ≤ 66
+  pub nodes : seen.nodes ≤ most_nodes kind
+  pub latches : seen.latches ≤ most_latches kind

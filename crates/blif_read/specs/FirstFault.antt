@@ -1,11 +1,14 @@
 -- The first fault of the lines of a section.
-use Rattle.std.specs.Prelude.{List, [], ◌∷◌, Option, None, Some}
+use Rattle.std.specs.Prelude.{ℕ, if◌then◌else◌, List, [], ◌∷◌, nat_lt, Option, None, Some}
 use Rattle.tsc_text.specs.TextLine.{TextLine}
 use Rattle.blif_read.specs.LineKind.{kind_of}
 use Rattle.blif_read.specs.Seen.{seen_behind}
 use Rattle.blif_read.specs.Faults.{fault_behind, fault_of}
+use Rattle.blif_read.specs.Clocks.{clock_misfit}
 use Rattle.blif_read.specs.declared.kinds.Kind.{Kind}
+use Rattle.blif_read.specs.declared.kinds.Kind.TheVariants.{Source, Registers, Netlist, Unplanned}
 use Rattle.blif_read.specs.declared.cause.Cause.{Cause}
+use Rattle.blif_read.specs.declared.cause.Cause.TheVariants.{LatchClock}
 use Rattle.blif_read.specs.declared.cause.LineFault.{LineFault}
 use Rattle.blif_read.specs.declared.seen.Seen.{Seen}
 
@@ -28,3 +31,16 @@ abbrev pub first_fault_after : Kind → Seen → List TextLine → Option LineFa
 first_fault_after kind seen [] = None
 first_fault_after kind seen (line ∷ lines) =
     fault_or (fault_of kind seen (kind_of line) line) line (first_fault_after kind (seen_behind seen (kind_of line) line) lines)
+
+-- the earlier of a fault and of the line with this number, whose clock doesn't fit; on one line the clock comes first
+abbrev pub with_misfit : Option LineFault → Option ℕ → Option LineFault
+with_misfit fault None = fault
+with_misfit None (Some line) = Some (record { line = line; cause = LatchClock })
+with_misfit (Some fault) (Some line) = if nat_lt fault.line line then Some fault else Some (record { line = line; cause = LatchClock })
+
+-- the first fault of a line: of registers that their clocks don't fit is one too
+abbrev pub line_fault : Kind → List TextLine → Option LineFault
+line_fault Source lines = first_fault Source lines
+line_fault Registers lines = with_misfit (first_fault Registers lines) (clock_misfit lines)
+line_fault Netlist lines = first_fault Netlist lines
+line_fault Unplanned lines = first_fault Unplanned lines

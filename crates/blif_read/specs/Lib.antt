@@ -4,6 +4,7 @@ pub mod NamedText
 pub mod Seen
 pub mod Faults
 pub mod PlanLines
+pub mod Clocks
 pub mod FirstFault
 pub mod Clean
 pub mod Added

@@ -5,13 +5,13 @@ use Rattle.tsc_net.specs.NetFault.{fault_of}
 use Rattle.tsc_net.specs.declared.net_error.NetError.{NetError}
 use Rattle.tsc_net.specs.declared.net_error.NetError.TheVariants.{Twice, Undriven, NoOutputs, Cycle, Memory as NoMemory}
 use Rattle.blif_read.specs.NamedText.{named_text}
-use Rattle.blif_read.specs.FirstFault.{first_fault}
+use Rattle.blif_read.specs.FirstFault.{line_fault}
 use Rattle.blif_read.specs.declared.kinds.Kind.{Kind}
 use Rattle.blif_read.specs.declared.cause.Cause.{Cause}
 use Rattle.blif_read.specs.declared.cause.Cause.TheVariants as cause
 use Rattle.blif_read.specs.declared.cause.LineFault.{LineFault}
 use Rattle.blif_read.specs.declared.error.BlifError.{BlifError}
-use Rattle.blif_read.specs.declared.error.BlifError.TheVariants.{Unsupported, WordCount, RowOutside, RowShape, Mixed, LatchInSource, LatchInit, PlanShape, Limit, Net, Memory}
+use Rattle.blif_read.specs.declared.error.BlifError.TheVariants.{Unsupported, WordCount, RowOutside, RowShape, Mixed, LatchInSource, LatchClock, LatchInit, PlanShape, Limit, Net, Memory}
 
 -- the refusal of a line with this fault
 abbrev pub cause_refusal : ℕ → Cause → BlifError
@@ -21,6 +21,7 @@ cause_refusal line cause.RowOutside = RowOutside line
 cause_refusal line cause.RowShape = RowShape line
 cause_refusal line cause.Mixed = Mixed line
 cause_refusal line cause.LatchInSource = LatchInSource line
+cause_refusal line cause.LatchClock = LatchClock line
 cause_refusal line cause.LatchInit = LatchInit line
 cause_refusal line cause.PlanShape = PlanShape line
 cause_refusal line (cause.Limit which) = Limit line which
@@ -54,7 +55,7 @@ refusal_of_net (Some fault) = Some (net_refusal fault)
 
 -- the refusal of the lines of a section, up to its netlist: the first line with a fault, then a fault of what the lines denote
 abbrev pub netlist_refusal : Kind → List TextLine → Option BlifError
-netlist_refusal kind lines = first_refusal (refusal_of_line (first_fault kind lines)) (refusal_of_net (fault_of (named_text lines)))
+netlist_refusal kind lines = first_refusal (refusal_of_line (line_fault kind lines)) (refusal_of_net (fault_of (named_text lines)))
 
 -- the section is refused by this, where `refusal` is its refusal; want of memory is free
 abbrev pub IsRefusedBy : Option BlifError → BlifError → Type 0

@@ -1,5 +1,5 @@
 -- What matters of the lines before a line: the open cover, whether a model and a plan were named, and how much was counted.
-use Rattle.std.specs.Prelude.{ℕ, ◌+◌, ◌≤◌, Bool, true, false, ◌||◌, List, [], ◌∷◌, Option, None, Some}
+use Rattle.std.specs.Prelude.{ℕ, ◌+◌, Bool, true, false, ◌||◌, List, [], ◌∷◌, Option, None, Some}
 use Rattle.tsc_text.specs.TextLine.{TextLine}
 use Rattle.blif_read.specs.LineKind.{kind_of, name_count, width_of}
 use Rattle.blif_read.specs.Rows.{output_of}
@@ -114,10 +114,3 @@ seen_behind seen kind line = record {
   nodes = seen.nodes + more_nodes kind;
   latches = seen.latches + more_latches kind;
 }
-
--- the counts keep the greatest limits
-pub record IsWithin (seen : Seen) : Type 0 where
-  pub inputs : seen.inputs ≤ 1024
-  pub outputs : seen.outputs ≤ 66
-  pub nodes : seen.nodes ≤ 1048576
-  pub latches : seen.latches ≤ 64

@@ -17,7 +17,9 @@ pub enum Cause {
     Mixed,
     /// A latch in a source.
     LatchInSource,
-    /// The bit that a latch holds first is missing, or is neither `0` nor `1`.
+    /// A latch of a source whose type is that of no edge, or whose type and control aren't those of the first latch.
+    LatchClock,
+    /// The bit that a latch holds first is missing or unknown.
     LatchInit,
     /// No plan line, or one out of its place.
     PlanShape,

@@ -29,7 +29,10 @@ pub enum BlifError {
     /// A latch in a source.
     #[error("line {line}: latch in a source")]
     LatchInSource { line: usize },
-    /// The bit that a latch holds first is missing, or is neither `0` nor `1`.
+    /// Registers that don't have one clock, or whose clock is read or driven: then the line is that of the first latch.
+    #[error("line {line}: latch clock")]
+    LatchClock { line: usize },
+    /// The bit that a latch holds first is missing or unknown.
     #[error("line {line}: latch init")]
     LatchInit { line: usize },
     /// A plan line out of its place or with wrong words, or, with the code line's number, a plan that breaks a rule.
@@ -64,6 +67,7 @@ pub fn line_refusal(fault: LineFault) -> BlifError
         Cause::RowShape => BlifError::RowShape { line },
         Cause::Mixed => BlifError::Mixed { line },
         Cause::LatchInSource => BlifError::LatchInSource { line },
+        Cause::LatchClock => BlifError::LatchClock { line },
         Cause::LatchInit => BlifError::LatchInit { line },
         Cause::PlanShape => BlifError::PlanShape { line },
         Cause::Limit(which) => BlifError::Limit { line, which },

@@ -3,7 +3,7 @@ ghost use Rattle.std.specs.Prelude.{◌≡◌, [], ◌∷◌, length, nat_lt, �
 ghost use Rattle.tsc_cover.specs.Text.{is_row_text};
 ghost use Rattle.blif_read.specs.LineKind.{names_of};
 ghost use Rattle.blif_read.specs.Rows.{has_row_shape, is_bit_word};
-ghost use Rattle.blif_read.specs.Faults.{fault_of, has_init, has_latch_shape, is_latch_type, is_mixed, latch_fault, latch_limit, limit, limit_in, model_fault, most_nodes, most_outputs, names_fault, plan_line_fault, row_fault};
+ghost use Rattle.blif_read.specs.Faults.{fault_of, has_any_init, has_init, has_latch_shape, is_latch_type, is_mixed, latch_fault, latch_limit, limit, limit_in, model_fault, most_latches, most_nodes, most_outputs, names_fault, plan_line_fault, row_fault};
 
 use crate::cause::Cause;
 use crate::kinds::{Kind, LineKind, is_word, word_or_empty};
@@ -18,7 +18,7 @@ fn most_outputs(kind: Kind) -> usize
     ensures most { result ≡ most_outputs kind }
 {
     match kind {
-        Kind::Source => 64,
+        Kind::Source | Kind::Registers => 64,
         Kind::Netlist | Kind::Unplanned => 66,
     }
 }
@@ -28,8 +28,18 @@ fn most_nodes(kind: Kind) -> usize
     ensures most { result ≡ most_nodes kind }
 {
     match kind {
-        Kind::Source => 16384,
+        Kind::Source | Kind::Registers => 16384,
         Kind::Netlist | Kind::Unplanned => 1_048_576,
+    }
+}
+
+/// The greatest number of latches.
+fn most_latches(kind: Kind) -> usize
+    ensures most { result ≡ most_latches kind }
+{
+    match kind {
+        Kind::Registers => 16384,
+        Kind::Source | Kind::Netlist | Kind::Unplanned => 64,
     }
 }
 
@@ -152,7 +162,7 @@ fn is_bit_word(word: &[u8]) -> bool
 }
 
 /// Whether a latch has its words.
-fn has_latch_shape(line: &TextLine) -> bool
+pub fn has_latch_shape(line: &TextLine) -> bool
     ensures shape { result ≡ has_latch_shape line.now }
 {
     let words = line.words();
@@ -167,6 +177,15 @@ fn has_init(line: &TextLine) -> bool
     (words == 4 || words == 6) && is_bit_word(line.word(words - 1))
 }
 
+/// Whether the last word of a latch is the bit that it holds first, or says that either bit will do.
+fn has_any_init(line: &TextLine) -> bool
+    ensures init { result ≡ has_any_init line.now }
+{
+    let words = line.words();
+    (words == 4 || words == 6)
+        && (is_bit_word(line.word(words - 1)) || is_word(line.word(words - 1), b"2"))
+}
+
 /// The fault of a line of `.latch`.
 fn latch_fault(kind: Kind, seen: &Seen, line: &TextLine) -> Option<Cause>
     ensures fault { result ≡ latch_fault kind seen.now line.now }
@@ -174,28 +193,28 @@ fn latch_fault(kind: Kind, seen: &Seen, line: &TextLine) -> Option<Cause>
     if !has_latch_shape(line) {
         return Some(Cause::WordCount);
     }
-    match kind {
-        Kind::Source => Some(Cause::LatchInSource),
-        Kind::Netlist | Kind::Unplanned => {
-            if has_init(line) {
-                limit(latch_limit(seen, line))
-            } else {
-                Some(Cause::LatchInit)
-            }
-        }
+    let has_init = match kind {
+        Kind::Source => return Some(Cause::LatchInSource),
+        Kind::Registers => has_any_init(line),
+        Kind::Netlist | Kind::Unplanned => has_init(line),
+    };
+    if has_init {
+        limit(latch_limit(kind, seen, line))
+    } else {
+        Some(Cause::LatchInit)
     }
 }
 
 /// The limit that the names of a latch or the count of latches pass.
-fn latch_limit(seen: &Seen, line: &TextLine) -> Option<Which>
-    ensures limit { result ≡ latch_limit seen.now line.now }
+fn latch_limit(kind: Kind, seen: &Seen, line: &TextLine) -> Option<Which>
+    ensures limit { result ≡ latch_limit kind seen.now line.now }
 {
     if is_long(word_or_empty(line, 1)) {
         return Some(Which::NameBytes);
     }
     let latches = Tally {
         which: Which::Latches,
-        most: 64,
+        most: most_latches(kind),
         count: seen.latches,
     };
     name_limit(latches, word_or_empty(line, 2))
@@ -252,7 +271,7 @@ fn plan_line_fault(kind: Kind, seen: &Seen, line: &TextLine) -> Option<Cause>
     ensures fault { result ≡ plan_line_fault kind seen.now line.now }
 {
     match kind {
-        Kind::Source | Kind::Unplanned => None,
+        Kind::Source | Kind::Registers | Kind::Unplanned => None,
         Kind::Netlist => {
             if has_plan_shape(line, seen.has_plan) {
                 None

@@ -1,8 +1,9 @@
 //! The first fault of a section.
 ghost use Rattle.std.specs.Prelude.{◌≡◌};
-ghost use Rattle.blif_read.specs.FirstFault.{first_fault};
+ghost use Rattle.blif_read.specs.FirstFault.{first_fault, line_fault, with_misfit};
 
-use crate::cause::LineFault;
+use crate::cause::{Cause, LineFault};
+use crate::clocks::clock_misfit;
 use crate::faults::fault_of;
 use crate::kinds::{Kind, kind_of};
 use crate::seen::Seen;
@@ -10,7 +11,7 @@ use tsc_text::SectionLines;
 
 /// The first fault of the lines of a section. It takes no memory.
 #[tactic(auto, using(crate::proofs::Scanned::first_fault_is, crate::proofs::Scanned::fault_later, crate::proofs::Scanned::fault_end))]
-pub fn first_fault(kind: Kind, section: &SectionLines) -> Option<LineFault>
+fn first_fault(kind: Kind, section: &SectionLines) -> Option<LineFault>
     ensures fault { result ≡ first_fault kind section.now }
 {
     let mut seen = Seen::new();
@@ -26,4 +27,29 @@ pub fn first_fault(kind: Kind, section: &SectionLines) -> Option<LineFault>
         seen = seen.behind(kind, line_kind, &line);
     }
     None
+}
+
+/// The earlier of a fault and of a line whose clock doesn't fit; on one line the clock comes first.
+fn with_misfit(fault: Option<LineFault>, misfit: Option<usize>) -> Option<LineFault>
+    ensures fault { result ≡ with_misfit fault misfit }
+{
+    match (fault, misfit) {
+        (fault, None) => fault,
+        (Some(fault), Some(line)) if fault.line < line => Some(fault),
+        (_, Some(line)) => Some(LineFault {
+            line,
+            cause: Cause::LatchClock,
+        }),
+    }
+}
+
+/// The first fault of a line: of registers that their clocks don't fit is one too. It takes no memory.
+pub fn line_fault(kind: Kind, section: &SectionLines) -> Option<LineFault>
+    ensures fault { result ≡ line_fault kind section.now }
+{
+    let fault = first_fault(kind, section);
+    match kind {
+        Kind::Registers => with_misfit(fault, clock_misfit(section)),
+        Kind::Source | Kind::Netlist | Kind::Unplanned => fault,
+    }
 }

@@ -11,6 +11,8 @@ use tsc_text::{TextLine, begins_with_dot};
 pub enum Kind {
     /// A network without latches.
     Source,
+    /// A network that may have registers.
+    Registers,
     /// A netlist with its plan.
     Netlist,
     /// A netlist without a plan: plan lines are passed over, and the limits are those of a netlist.

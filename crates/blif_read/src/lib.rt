@@ -2,11 +2,12 @@
 //! Its main call is `read_blif`, which gives a `BlifText`.
 //! It stands on `tsc_text` for lines and on `tsc_net` for netlists and plans.
 //! Its main promise: what is read is exactly what the text denotes, and each refusal comes exactly where it stands, in order.
-//! Its definitions are in `specs/`: LineKind, Rows and NamedText say what a text denotes, Faults and FirstFault what is refused.
+//! Its definitions are in `specs/`: LineKind, Rows, NamedText and Clocks say what a text denotes, Faults, Clocks and FirstFault what is refused.
 #![tactic(auto)]
 
 mod builder;
 mod cause;
+mod clocks;
 mod cover_rows;
 mod error;
 mod faults;
@@ -24,6 +25,7 @@ mod plan_states;
 mod reading;
 mod seen;
 
+pub use clocks::{Clock, Edge};
 pub use error::BlifError;
 pub use kinds::Kind;
 pub use reading::{BlifText, read_blif};

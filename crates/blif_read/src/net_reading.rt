@@ -6,7 +6,7 @@ ghost use Rattle.blif_read.specs.NamedText.{named_text};
 ghost use Rattle.blif_read.specs.Refusal.{netlist_refusal, IsRefusedBy};
 
 use crate::error::{BlifError, line_refusal, net_refusal};
-use crate::first_fault::first_fault;
+use crate::first_fault::line_fault;
 use crate::kinds::Kind;
 use crate::parts_of::parts_of;
 use std::alloc::Global;
@@ -25,7 +25,7 @@ pub fn read_net(
     ensures sound { OnOk result (netlist_refusal kind section.now ≡ None) }
     ensures refused { IfErr result (IsRefusedBy (netlist_refusal kind section.now)) }
 {
-    match first_fault(kind, section) {
+    match line_fault(kind, section) {
         Some(fault) => return Err(line_refusal(fault)),
         None => {}
     }

@@ -1,8 +1,8 @@
 //! What matters of the lines before a line.
 ghost use Rattle.std.specs.Prelude.{◌≡◌, [], None};
 ghost use Rattle.blif_read.specs.Rows.{output_of};
-ghost use Rattle.blif_read.specs.Seen.{seen_behind, seen_of, with_row, IsWithin};
-ghost use Rattle.blif_read.specs.Faults.{fault_of};
+ghost use Rattle.blif_read.specs.Seen.{seen_behind, seen_of, with_row};
+ghost use Rattle.blif_read.specs.Faults.{fault_of, IsWithin};
 
 use crate::kinds::{Kind, LineKind, is_word, word_or_empty};
 use tsc_text::TextLine;
@@ -39,7 +39,7 @@ impl Seen {
     /// Before the first line.
     pub fn new() -> Seen
         ensures start { result ≡ seen_of [] }
-        ensures within { IsWithin result }
+        ensures within { (kind : Kind) → IsWithin kind result }
     {
         Seen {
             has_model: false,
@@ -54,10 +54,10 @@ impl Seen {
 
     /// After one more line of that kind.
     pub fn behind(self, kind: Kind, line_kind: LineKind, line: &TextLine) -> Seen
-        requires within { IsWithin self }
+        requires within { IsWithin kind self }
         requires sound { fault_of kind self line_kind line.now ≡ None }
         ensures seen { result ≡ seen_behind self line_kind line.now }
-        ensures within { IsWithin result }
+        ensures within { IsWithin kind result }
     {
         let mut seen = self;
         let more = line.words().saturating_sub(1);

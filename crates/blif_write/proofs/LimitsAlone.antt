@@ -102,7 +102,7 @@ limited-nodes (x ∷ nodes) h seen n =
 -- latches
 latch-limited : (l : NamedLatch) (n : ℕ) (seen : Seen) → IsLimit (latch_fault Unplanned seen (at n (latch_line l)))
 latch-limited l n seen =
-    let passed : Option Which = latch_limit seen (at n (latch_line l)) in
+    let passed : Option Which = latch_limit Unplanned seen (at n (latch_line l)) in
     let L : Bool → Type 0 = λ b. IsLimit (if b then limit passed else Some LatchInit) in
     subst L (sym (init-is l n)) (limit-alone passed)
 

@@ -152,7 +152,7 @@ init-is l n = bit-is l.init
 
 latch-clean : (l : NamedLatch) → LatchWith IsShort l → (n : ℕ) (seen : Seen) → seen.latches < 64 → latch_fault Netlist seen (at n (latch_line l)) ≡ None
 latch-clean l h n seen few =
-    ap (λ (b : Bool). if b then limit (latch_limit seen (at n (latch_line l))) else Some LatchInit) (init-is l n)
+    ap (λ (b : Bool). if b then limit (latch_limit Netlist seen (at n (latch_line l))) else Some LatchInit) (init-is l n)
     ∙ ap (λ (b : Bool). limit (if b then Some NameBytes else limit_in LatchCount 64 seen.latches (l.out ∷ []))) (not-long l.reads h.reads)
     ∙ ap limit (limit_in-none LatchCount 64 seen.latches (l.out ∷ []) (one-name l.out h.out) (omega arith))
 

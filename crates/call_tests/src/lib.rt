@@ -26,4 +26,6 @@ mod pla;
 #[cfg(test)]
 mod pool;
 #[cfg(test)]
+mod registers;
+#[cfg(test)]
 mod states;

@@ -10,6 +10,7 @@ use Rattle.tsc_text.specs.declared.section.Section.{Section}
 use Rattle.tsc_net.specs.NetlistOf.{NetlistOf, netlist_of}
 use Rattle.tsc_net.specs.declared.planned.PlannedNetlist.{PlannedNetlist}
 use Rattle.blif_read.specs.Denotes.{refusal}
+use Rattle.blif_read.specs.Faults.{most_latches}
 use Rattle.blif_read.specs.NamedText.{named_text}
 use Rattle.blif_read.specs.declared.kinds.Kind.{Kind}
 use Rattle.blif_read.specs.declared.kinds.Kind.TheVariants.{Netlist}
@@ -64,7 +65,7 @@ are_planned lines (part ∷ parts) are =
 
 -- what is read can be written
 abbrev ReadIsWritable : Type 0
-ReadIsWritable = (text : List ℕ) (lines : List TextLine) (section : Section) (kind : Kind) (net : NetlistOf) → bad_line text ≡ None
+ReadIsWritable = (text : List ℕ) (lines : List TextLine) (section : Section) (kind : Kind) (net : NetlistOf) → most_latches kind ≤ 64 → bad_line text ≡ None
     → lines ≡ lines_of text → refusal kind (section_lines lines section) ≡ None → net ≡ netlist_of (named_text (section_lines lines section))
     → IsWritable net
 
@@ -74,7 +75,7 @@ are_writable : ReadIsWritable → (text : List ℕ) (lines : List TextLine) (par
 are_writable can text lines [] from sound are = tt
 are_writable can text lines (part ∷ parts) from sound are =
     let is = All-head (IsPartOf lines) part parts are in (
-      can text lines is.section Netlist part.net sound from is.allowed is.denoted,
+      can text lines is.section Netlist part.net (omega arith) sound from is.allowed is.denoted,
       are_writable can text lines parts from sound (All-tail (IsPartOf lines) part parts are),
     )
 

@@ -1,9 +1,10 @@
 -- What a section denotes that nothing refuses is a built netlist.
-use Rattle.std.proofs.Common.{◌≡◌, ℕ, ◌-◌, ◌<◌, ◌^◌, Bool, true, false, if◌then◌else◌, List, [], ◌∷◌, ◌++◌, length, drop, All, Option, None, Some, refl, arith, length-append, length-drop}
+use Rattle.std.proofs.Common.{◌≡◌, ℕ, ◌+◌, ◌-◌, ◌<◌, ◌≤◌, ◌^◌, Bool, true, false, if◌then◌else◌, List, [], ◌∷◌, ◌++◌, length, drop, All, Option, None, Some, refl, arith, length-append, length-drop}
 use Rattle.std.proofs.lemmas.List.{length-map, length-take}
 use Rattle.std.proofs.lemmas.List.Elements.{All-nil, All-cons, All-append}
 use Rattle.tsc_text.specs.TextLine.{TextLine}
 use Rattle.tsc_net.specs.Named.{Named, NamedLatch, NamedNode, latch_outs, node_outs}
+use Rattle.tsc_net.specs.Limits.{most_nets}
 use Rattle.tsc_net.specs.NetFault.{twice, undriven, first_fault, first_repeat, first_missing, no_outputs, reads_of, ring_of, fault_of}
 use Rattle.tsc_net.specs.NetlistOf.{IsBuilt, drivers, circuit_of, netlist_of}
 use Rattle.tsc_net.specs.Order.{fan_ins, has_whole_order}
@@ -19,7 +20,7 @@ use Rattle.blif_read.specs.Seen.{seen_of}
 use Rattle.blif_read.specs.declared.kinds.Kind.{Kind}
 use Rattle.blif_read.specs.declared.kinds.LineKind.{LineKind}
 use Rattle.blif_read.specs.declared.kinds.LineKind.TheVariants.{PlanLine, Model, Inputs, Outputs, Names, Latch, OtherDirective, Row}
-use Rattle.blif_read.proofs.Counts.{AreFew, few_parts}
+use Rattle.blif_read.proofs.Counts.{AreFew, few_parts, many_nets}
 use Rattle.blif_read.proofs.NotRefused.{no_line_fault, no_net_fault}
 
 -- ---- the netlist has no fault
@@ -74,8 +75,8 @@ nodes_even (line ∷ lines) =
 
 -- ---- and few nets
 
-few_drivers : (N : Named) → length N.inputs < 1025 → length N.latches < 65 → length N.nodes < 1048577 → length (drivers N) < 2 ^ 32
-few_drivers N inputs latches nodes =
+few_drivers : (N : Named) → length N.inputs + length N.latches + length N.nodes ≤ most_nets → length (drivers N) < 2 ^ 32
+few_drivers N few =
     omega (
       arith,
       length-append (N.inputs ++ latch_outs N) (node_outs N),
@@ -89,13 +90,13 @@ pub section_is_built : (kind : Kind) (lines : List TextLine) → refusal kind li
 section_is_built kind lines e =
     let N = named_text lines in
     let sound = has_no_fault N (no_net_fault kind lines e) in
-    let few : AreFew (seen_of []) lines = few_parts kind lines (no_line_fault kind lines e) in
+    let few : AreFew kind (seen_of []) lines = few_parts kind lines (no_line_fault kind lines e) in
     let driven : IsDriven N = record {
       once = sound.once;
       shown_once = sound.shown_once;
       driven = sound.driven;
       some_output = sound.some_output;
       pins = nodes_even lines;
-      few = few_drivers N (omega (arith, few.inputs)) (omega (arith, few.latches)) (omega (arith, few.nodes));
+      few = few_drivers N (many_nets kind (length N.inputs) (length N.latches) (length N.nodes) (omega (arith, few.inputs)) (omega (arith, few.latches)) (omega (arith, few.nodes)));
     } in
     checked_from_order (netlist_of N) (sound_netlist N driven) sound.whole

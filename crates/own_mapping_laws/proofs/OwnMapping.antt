@@ -107,7 +107,7 @@ module _ (answer : List ℕ) (readable : text_refusal Netlist answer ≡ None) (
 
   read : IsReadAs (netlist_text N P) N P
   read = is-read-as N P built structure.well_made structure.plan_of
-      (read-writable answer lines (first_section lines) Netlist N bytes refl section refl)
+      (read-writable answer lines (first_section lines) Netlist N (omega arith) bytes refl section refl)
 
   laid : lines ≡ all_lines N P
   laid = ap lines_of written ∙ read.lines

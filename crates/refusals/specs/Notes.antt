@@ -8,7 +8,7 @@ use Rattle.tsc_text.specs.declared.which.Which.{Which}
 use Rattle.tsc_text.specs.declared.which.Which.TheVariants.{NameBytes, Inputs, Outputs, Nodes, Pins, Latches, Rows, States}
 use Rattle.blif_read.specs.Faults.{most_inputs, most_latches, most_name_bytes, most_nodes, most_outputs, most_pins}
 use Rattle.blif_read.specs.declared.error.BlifError.{BlifError}
-use Rattle.blif_read.specs.declared.error.BlifError.TheVariants.{Unsupported, WordCount, RowOutside, RowShape, Mixed, LatchInSource, LatchInit, PlanShape, Limit, Net, NoPlan, PlanName, Memory as BlifMemory}
+use Rattle.blif_read.specs.declared.error.BlifError.TheVariants.{Unsupported, WordCount, RowOutside, RowShape, Mixed, LatchInSource, LatchClock, LatchInit, PlanShape, Limit, Net, NoPlan, PlanName, Memory as BlifMemory}
 use Rattle.table_lines.specs.LineFaults as table_limit
 use Rattle.kiss_read.specs.Faults as kiss_limit
 use Rattle.kiss_read.specs.declared.error.KissError.{KissError}
@@ -40,7 +40,7 @@ most_of kind Inputs = most_inputs
 most_of kind Outputs = most_outputs kind
 most_of kind Nodes = most_nodes kind
 most_of kind Pins = most_pins
-most_of kind Latches = most_latches
+most_of kind Latches = most_latches kind
 most_of kind Rows = table_limit.most_rows
 most_of kind States = kiss_limit.most_states
 
@@ -80,6 +80,7 @@ blif_text kind (RowOutside line) = at_line line (codes "row outside a cover")
 blif_text kind (RowShape line) = at_line line (codes "row shape")
 blif_text kind (Mixed line) = at_line line (codes "mixed rows")
 blif_text kind (LatchInSource line) = at_line line (codes "latch in a source")
+blif_text kind (LatchClock line) = at_line line (codes "latch clock")
 blif_text kind (LatchInit line) = at_line line (codes "latch init")
 blif_text kind (PlanShape line) = at_line line (codes "plan shape")
 blif_text kind (Limit line which) = at_line line (limit_text kind which)

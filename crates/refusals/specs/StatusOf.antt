@@ -2,7 +2,7 @@
 use Rattle.tsc_net.specs.declared.net_error.NetError.{NetError}
 use Rattle.tsc_net.specs.declared.net_error.NetError.TheVariants.{Twice, Undriven, NoOutputs, Cycle, Memory as NetMemory}
 use Rattle.blif_read.specs.declared.error.BlifError.{BlifError}
-use Rattle.blif_read.specs.declared.error.BlifError.TheVariants.{Unsupported, WordCount, RowOutside, RowShape, Mixed, LatchInSource, LatchInit, PlanShape, Limit as BlifLimit, Net, NoPlan, PlanName, Memory as BlifMemory}
+use Rattle.blif_read.specs.declared.error.BlifError.TheVariants.{Unsupported, WordCount, RowOutside, RowShape, Mixed, LatchInSource, LatchClock, LatchInit, PlanShape, Limit as BlifLimit, Net, NoPlan, PlanName, Memory as BlifMemory}
 use Rattle.kiss_read.specs.declared.error.KissError.{KissError}
 use Rattle.kiss_read.specs.declared.error.KissError.TheVariants as kiss
 use Rattle.pla_read.specs.declared.error.PlaError.{PlaError}
@@ -28,6 +28,7 @@ blif_status (RowOutside line) = BadInput
 blif_status (RowShape line) = BadInput
 blif_status (Mixed line) = BadInput
 blif_status (LatchInSource line) = BadInput
+blif_status (LatchClock line) = BadInput
 blif_status (LatchInit line) = BadInput
 blif_status (PlanShape line) = BadInput
 blif_status (BlifLimit line which) = Limit

@@ -31,6 +31,6 @@ fn first_netlist(alloc: Global, text: &Bytes) -> Option<Netlist>
 {
     let lines = Lines::of(alloc, text).ok()?;
     let section = lines.section(0, End::Blif);
-    let BlifText { net, plan: _ } = read_blif(alloc, &lines, section, Kind::Netlist).ok()?;
+    let BlifText { net, .. } = read_blif(alloc, &lines, section, Kind::Netlist).ok()?;
     Some(net)
 }

@@ -21,7 +21,11 @@ pub fn net_and_plan_of(alloc: Global, text: &[u8]) -> Option<PlannedNetlist>
     requires short { length text.now ≤ 67108864 }
     ensures plan { IfSome result (λ read. IsPlanOf read.net.circuit read.plan) }
 {
-    let BlifText { net, plan } = section_of(alloc, text, Kind::Netlist)?;
+    let BlifText {
+        net,
+        plan,
+        clock: _,
+    } = section_of(alloc, text, Kind::Netlist)?;
     let plan = plan?;
     Some(PlannedNetlist { net, plan })
 }
@@ -30,7 +34,7 @@ pub fn net_and_plan_of(alloc: Global, text: &[u8]) -> Option<PlannedNetlist>
 pub fn network_of(alloc: Global, text: &[u8]) -> Option<Netlist>
     requires short { length text.now ≤ 67108864 }
 {
-    let BlifText { net, plan: _ } = section_of(alloc, text, Kind::Source)?;
+    let BlifText { net, .. } = section_of(alloc, text, Kind::Source)?;
     Some(net)
 }
 

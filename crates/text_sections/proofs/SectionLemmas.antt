@@ -15,7 +15,7 @@ use Rattle.blif_read.specs.Denotes.{refusal}
 use Rattle.blif_read.specs.declared.kinds.Kind.{Kind}
 use Rattle.blif_read.specs.Refusal.{IsRefusedBy as IsRefusedByError}
 use Rattle.blif_read.specs.declared.error.BlifError.{BlifError}
-use Rattle.blif_read.specs.declared.error.BlifError.TheVariants.{Unsupported, WordCount, RowOutside, RowShape, Mixed, LatchInSource, LatchInit, PlanShape, Limit, Net, NoPlan, PlanName, Memory as NoMemory}
+use Rattle.blif_read.specs.declared.error.BlifError.TheVariants.{Unsupported, WordCount, RowOutside, RowShape, Mixed, LatchInSource, LatchClock, LatchInit, PlanShape, Limit, Net, NoPlan, PlanName, Memory as NoMemory}
 use Rattle.refusals.specs.declared.refusal.Refusal.{Refusal}
 use Rattle.refusals.specs.declared.refusal.Refusal.TheVariants.{Usage, ReadFault, WriteFault, Memory, TooLong, BadByte, Blif, Kiss, Pla, AfterTheEnd, NotListed, StepShape, TooManyStates, TooLarge, TooManyPoints, NoNetlist, TooManyAuditPoints, RowsSpent, TooManyPins, TooManyParts, TooManyJointInputs}
 use Rattle.text_sections.specs.Refused.{IsRefusedBy, as_refusal, byte_refusal, first_of, last_refusal, left_behind, lines_refusal, refusal_from, section_refusal, text_refusal}
@@ -93,6 +93,7 @@ refused_section kind first (RowOutside line) refused = ap (section_refusal kind)
 refused_section kind first (RowShape line) refused = ap (section_refusal kind) refused
 refused_section kind first (Mixed line) refused = ap (section_refusal kind) refused
 refused_section kind first (LatchInSource line) refused = ap (section_refusal kind) refused
+refused_section kind first (LatchClock line) refused = ap (section_refusal kind) refused
 refused_section kind first (LatchInit line) refused = ap (section_refusal kind) refused
 refused_section kind first (PlanShape line) refused = ap (section_refusal kind) refused
 refused_section kind first (Limit line which) refused = ap (section_refusal kind) refused

@@ -127,7 +127,11 @@ pub fn last_netlist(alloc: Global, lines: &Lines, from: usize) -> Result<Planned
     ensures allowed { OnOk result (last_refusal Kind.Netlist lines.now from ≡ None) }
     ensures refused { IfErr result (IsRefusedBy (last_refusal Kind.Netlist lines.now from)) }
 {
-    let BlifText { net, plan } = match last_text(alloc, lines, from, Kind::Netlist) {
+    let BlifText {
+        net,
+        plan,
+        clock: _,
+    } = match last_text(alloc, lines, from, Kind::Netlist) {
         Ok(text) => text,
         Err(refusal) => return Err(refusal),
     };
@@ -217,7 +221,11 @@ pub fn netlist_from(alloc: Global, lines: &Lines, from: usize) -> Result<Planned
     ensures allowed { OnOk result (refusal_from Kind.Netlist lines.now from ≡ None) }
     ensures refused { IfErr result (IsRefusedBy (refusal_from Kind.Netlist lines.now from)) }
 {
-    let BlifText { net, plan } = match text_from(alloc, lines, from, Kind::Netlist) {
+    let BlifText {
+        net,
+        plan,
+        clock: _,
+    } = match text_from(alloc, lines, from, Kind::Netlist) {
         Ok(text) => text,
         Err(refusal) => return Err(refusal),
     };

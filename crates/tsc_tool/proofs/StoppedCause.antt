@@ -42,6 +42,7 @@ blif_stopped (blif.RowOutside line) = tt
 blif_stopped (blif.RowShape line) = tt
 blif_stopped (blif.Mixed line) = tt
 blif_stopped (blif.LatchInSource line) = tt
+blif_stopped (blif.LatchClock line) = tt
 blif_stopped (blif.LatchInit line) = tt
 blif_stopped (blif.PlanShape line) = tt
 blif_stopped (blif.Limit line which) = tt

@@ -2,4 +2,4 @@ use Rattle.blif_write.proofs.ReadWritable.{read-writable}
 use Rattle.blif_write.proofs.laws.read_nets_are_writable.Goals as goal
 
 pub returns : goal.returns
-returns c = record { writable = λ text lines section kind net allowed is sound denoted. read-writable text lines section kind net allowed is sound denoted }
+returns c = record { writable = λ text lines section kind net few allowed is sound denoted. read-writable text lines section kind net few allowed is sound denoted }

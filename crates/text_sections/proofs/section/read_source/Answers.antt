@@ -1,3 +1,4 @@
+use Rattle.std.proofs.Common.{arith}
 use Rattle.std.proofs.lemmas.Result.{err_from_is_err_and}
 use Rattle.blif_read.specs.declared.kinds.Kind.TheVariants.{Source}
 use Rattle.text_sections.specs.Denoted.{first_section}
@@ -20,5 +21,5 @@ returns-clause-allowed c =
 pub returns-clause-writable : goal.returns-clause-writable
 returns-clause-writable c =
     let lines = c.in_ok-lines.lines in
-    c.read_nets_are_writable.ensures.writable c.args.text.now lines (first_section lines) Source c.in_ok-source.source c.in_ok-lines.ensures.allowed c.in_ok-lines.ensures.lines
+    c.read_nets_are_writable.ensures.writable c.args.text.now lines (first_section lines) Source c.in_ok-source.source (omega arith) c.in_ok-lines.ensures.allowed c.in_ok-lines.ensures.lines
     (section_allowed Source lines 0 c.in_ok-source.ensures.allowed) c.in_ok-source.ensures.exact

@@ -1,4 +1,5 @@
 use Rattle.std.proofs.Common.{◌+◌, ◌-◌, ◌≤◌, length, arith, rules}
+use Rattle.blif_read.specs.Faults.{most_latches}
 use Rattle.blif_read.proofs.Scanned.{inputs_fit, outputs_fit, latches_fit}
 use Rattle.blif_read.proofs.seen.Seen.behind.Goals as goal
 
@@ -28,6 +29,6 @@ returns-in-Outputs-clause-within c =
 
 pub returns-in-Latch-clause-within : goal.returns-in-Latch-clause-within
 returns-in-Latch-clause-within c =
-    let fit : c.args.self.latches + 1 ≤ 64 =
+    let fit : c.args.self.latches + 1 ≤ most_latches c.args.kind =
     latches_fit c.args.kind c.args.self c.args.line_kind c.args.line.now (search rules) c.requires.sound c.requires.within in
     record { inputs = c.requires.within.inputs; outputs = c.requires.within.outputs; nodes = c.requires.within.nodes; latches = fit }
