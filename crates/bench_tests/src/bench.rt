@@ -24,11 +24,12 @@ const SECOND: &[u8] =
 fn put(alloc: Global, points: &mut Points, place: usize, a: bool, b: bool) -> Result<(), AllocError>
     requires place { place < 1024 }
     requires inputs { points.old.inputs ≡ 2 }
+    requires latches { points.old.latches ≡ 0 }
     ensures inputs { points.new.inputs ≡ points.old.inputs }
     ensures latches { points.new.latches ≡ points.old.latches }
 {
     let input = Items::from_slice(alloc, &[a, b])?;
-    points.put(place, 0, &input);
+    points.put(place, &[], &input);
     Ok(())
 }
 

@@ -1,3 +1,4 @@
+pub mod WrittenLemmas
 pub mod ReadingLemmas
 pub mod SettleLemmas
 pub mod ShownLemmas

@@ -152,9 +152,11 @@ taken_next N P f nets bits v views watched are shows =
 
 -- ---- the number of a state
 
+-- bits of as many latches, back from their number
 pub state_of_number : (N : Circuit) (bits : List Bool) (state : ℕ) → state ≡ binary bits → length bits ≡ length N.latches → bits_of (length N.latches) state ≡ bits
 state_of_number N bits state is sized = ap₂ bits_of (sym sized) is ∙ bits_of-binary bits
 
+-- the number of as many bits is one of a state
 pub state_fits : (N : Circuit) (bits : List Bool) (state : ℕ) → state ≡ binary bits → length bits ≡ length N.latches → state < 2 ^ length N.latches
 state_fits N bits state is sized = subst (λ n. state < 2 ^ n) sized (subst (λ k. k < 2 ^ length bits) (sym is) (binary-lt bits))
 
@@ -170,11 +172,30 @@ shows_valuation N P nets bits v view watched are shows = record {
       (λ k d h. are _ (part_watched N P nets watched (take P.outputs N.outputs) (outputs_watched N P) k d h)) shows.outputs;
   checks = number_same bits (bit v) P.checks view.checks
       (λ k d h. are _ (part_watched N P nets watched P.checks (checks_watched N P) k d h)) shows.checks;
-  next = number_same bits (bit v) (next_nets N) view.next
-      (λ k d h. are _ (part_watched N P nets watched (next_nets N) (next_watched N P) k d h)) shows.next;
   rail1 = shows.rail1 ∙ are P.rail1 (rail1_is_watched N P nets watched);
   rail2 = shows.rail2 ∙ are P.rail2 (rail2_is_watched N P nets watched);
 }
+
+-- the bits of the nets at the latch inputs
+pub next_same : (N : Circuit) (P : CodePlan) (nets : List ℕ) (bits : ℕ → Bool) (v : List Bool) → nets ≡ watched_nets N P → ShowBits nets bits v
+    → map bits (next_nets N) ≡ map (bit v) (next_nets N)
+next_same N P nets bits v watched are =
+    map_same bits (bit v) (next_nets N) (λ k d h. are _ (part_watched N P nets watched (next_nets N) (next_watched N P) k d h))
+
+pub length-next : (N : Circuit) (bits : ℕ → Bool) → length (map bits (next_nets N)) ≡ length N.latches
+length-next N bits = length-map (next_nets N) bits ∙ length-map N.latches (λ (latch : LatchOf). latch.reads)
+
+-- their number
+pub next_of_number : (N : Circuit) (bits : ℕ → Bool) (number : ℕ) → number ≡ number_at bits (next_nets N) → bits_of (length N.latches) number ≡ map bits (next_nets N)
+next_of_number N bits number is = state_of_number N (map bits (next_nets N)) number is (length-next N bits)
+
+-- read from the latches
+pub next_read : (N : Circuit) (bits : ℕ → Bool) (views : List LatchView) → AreLatchesOf N views → map (λ latch. bits latch.reads.number) views ≡ map bits (next_nets N)
+next_read N bits views are = reads_read views ∙ ap (map bits) (next_numbers N views are)
+  where
+    reads_read : (list : List LatchView) → map (λ latch. bits latch.reads.number) list ≡ map bits (net_numbers (reads_of list))
+    reads_read [] = refl
+    reads_read (view ∷ list) = ap (λ rest. bits view.reads.number ∷ rest) (reads_read list)
 
 -- ---- what a bench may watch
 

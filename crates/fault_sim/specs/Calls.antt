@@ -6,14 +6,13 @@ use Rattle.fault_secure.specs.Run.{init_state, RunsFrom, HasOneRun}
 use Rattle.fault_secure.specs.CodePlan.{CodePlan}
 use Rattle.tsc_net.specs.When.{has_step}
 use Rattle.tsc_net.specs.declared.when.Span.{Span}
-use Rattle.fault_sim.specs.Sim.{SimState, IsViewOf, IsCall}
-use Rattle.fault_sim.specs.declared.step_view.StepView.{StepView}
+use Rattle.fault_sim.specs.Sim.{SimState, StepAnswer, IsAnswerOf, IsCall}
 
 -- calls with these inputs, one after the other, and what they answer
-abbrev pub AreCalls : SimState → List (List Bool) → List StepView → Type 0
+abbrev pub AreCalls : SimState → List (List Bool) → List StepAnswer → Type 0
 AreCalls sim [] [] = Unit {0}
-AreCalls sim (x ∷ xs) (view ∷ views) = (next : SimState) × IsCall sim x view next × AreCalls next xs views
-AreCalls sim [] (view ∷ views) = ⊥
+AreCalls sim (x ∷ xs) (answer ∷ answers) = (next : SimState) × IsCall sim x answer next × AreCalls next xs answers
+AreCalls sim [] (answer ∷ answers) = ⊥
 AreCalls sim (x ∷ xs) [] = ⊥
 
 -- one bit for each input: whether the fault is present at its step, the first step being number `step`
@@ -21,25 +20,25 @@ abbrev pub steps_held : List Span → ℕ → List (List Bool) → List Bool
 steps_held when step [] = []
 steps_held when step (x ∷ xs) = has_step when step ∷ steps_held when (step + 1) xs
 
--- each step shows its valuation
-abbrev pub ShowEach : Circuit → CodePlan → List (List Bool) → List StepView → Type 0
+-- each step answers its valuation
+abbrev pub ShowEach : Circuit → CodePlan → List (List Bool) → List StepAnswer → Type 0
 ShowEach N P [] [] = Unit {0}
-ShowEach N P (v ∷ vs) (view ∷ views) = IsViewOf N P (bit v) view × ShowEach N P vs views
-ShowEach N P [] (view ∷ views) = ⊥
+ShowEach N P (v ∷ vs) (answer ∷ answers) = IsAnswerOf N P (bit v) answer × ShowEach N P vs answers
+ShowEach N P [] (answer ∷ answers) = ⊥
 ShowEach N P (v ∷ vs) [] = ⊥
 
 -- calls answer step for step each run from the state bits that the simulation has
 abbrev pub CallsAnswerRuns : Type 0
 CallsAnswerRuns =
-    (sim : SimState) (xs vs : List (List Bool)) (views : List StepView) → AreCalls sim xs views
-    → RunsFrom sim.bench.circuit sim.fault sim.state (steps_held sim.when sim.step xs) xs vs → ShowEach sim.bench.circuit sim.plan vs views
+    (sim : SimState) (xs vs : List (List Bool)) (answers : List StepAnswer) → AreCalls sim xs answers
+    → RunsFrom sim.bench.circuit sim.fault sim.state (steps_held sim.when sim.step xs) xs vs → ShowEach sim.bench.circuit sim.plan vs answers
 
 -- the calls from step 0 answer step for step the one run over their inputs
-pub record AnswerTheRun (sim : SimState) (xs : List (List Bool)) (views : List StepView) : Type 0 where
+pub record AnswerTheRun (sim : SimState) (xs : List (List Bool)) (answers : List StepAnswer) : Type 0 where
   pub one : HasOneRun sim.bench.circuit sim.fault (steps_held sim.when 0 xs) xs
-  pub shows : ShowEach sim.bench.circuit sim.plan one.run views
+  pub shows : ShowEach sim.bench.circuit sim.plan one.run answers
 
 abbrev pub CallsAnswerTheRun : Type 0
 CallsAnswerTheRun =
-    (sim : SimState) (xs : List (List Bool)) (views : List StepView) → Acyclic sim.bench.circuit
-    → sim.step ≡ 0 → sim.state ≡ init_state sim.bench.circuit → AreCalls sim xs views → AnswerTheRun sim xs views
+    (sim : SimState) (xs : List (List Bool)) (answers : List StepAnswer) → Acyclic sim.bench.circuit
+    → sim.step ≡ 0 → sim.state ≡ init_state sim.bench.circuit → AreCalls sim xs answers → AnswerTheRun sim xs answers

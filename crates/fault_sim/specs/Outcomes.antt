@@ -6,12 +6,16 @@ use Rattle.fault_secure.specs.StuckAt.{StuckAt}
 use Rattle.fault_secure.specs.Settle.{Settles}
 use Rattle.fault_secure.specs.Run.{next_state}
 use Rattle.fault_secure.specs.CodePlan.{CodePlan}
-use Rattle.fault_sim.specs.Sim.{SimState, next_fault, IsViewOf, IsCall}
+use Rattle.fault_sim.specs.Sim.{SimState, next_fault, StepAnswer, IsAnswerOf, IsCall}
 use Rattle.fault_sim.specs.declared.outcome.Outcome.{Outcome}
+
+-- what a step with this outcome answers, where there are so many latches
+abbrev pub outcome_answer : ℕ → Outcome → StepAnswer
+outcome_answer latches outcome = record { view = outcome.view; next = bits_of latches outcome.next }
 
 -- what a step under the fault f with the input bits x from the state bits s shows and leaves, in whatever valuation it settles
 pub record IsOutcome (N : Circuit) (P : CodePlan) (f : StuckAt) (x s : List Bool) (outcome : Outcome) : Type 0 where
-  pub shows : (v : List Bool) → Settles N f (bit x) (bit s) v → IsViewOf N P (bit v) outcome.view
+  pub shows : (v : List Bool) → Settles N f (bit x) (bit s) v → IsAnswerOf N P (bit v) (outcome_answer (length N.latches) outcome)
   pub leaves : (v : List Bool) → Settles N f (bit x) (bit s) v → bits_of (length N.latches) outcome.state ≡ next_state N f v
   pub fits : outcome.state < 2 ^ length N.latches
 
@@ -21,12 +25,16 @@ pub record AreOutcomes (N : Circuit) (P : CodePlan) (f : StuckAt) (states : ℕ)
   pub each : (s i : ℕ) (d : Outcome) → s < states → i < length xs
       → IsOutcome N P f (slice_index_or xs i []) (bits_of (length N.latches) s) (slice_index_or outcomes (s * length xs + i) d)
 
--- the simulation after one more step, with this state
-abbrev pub after : SimState → ℕ → SimState
-after sim state = record sim { step = sim.step + 1; state = bits_of (length sim.bench.circuit.latches) state }
+-- the simulation after one more step with this outcome
+abbrev pub after : SimState → Outcome → SimState
+after sim outcome = record sim {
+  step = sim.step + 1;
+  state = bits_of (length sim.bench.circuit.latches) outcome.state;
+  next = bits_of (length sim.bench.circuit.latches) outcome.next;
+}
 
 -- the outcome of a simulation's next step is what a call of `step` answers and leaves
 abbrev pub OutcomesAreCalls : Type 0
 OutcomesAreCalls =
     (sim : SimState) (x : List Bool) (outcome : Outcome) → IsOutcome sim.bench.circuit sim.plan (next_fault sim) x sim.state outcome
-    → IsCall sim x outcome.view (after sim outcome.state)
+    → IsCall sim x (outcome_answer (length sim.bench.circuit.latches) outcome) (after sim outcome)

@@ -27,4 +27,3 @@ pub record IsShownOf (N : Circuit) (P : CodePlan) (shown : Shown) : Type 0 where
   pub next : shown.next.items ≡ map (λ latch. latch.reads) shown.latches.items
   pub few_outputs : length shown.outputs.items ≤ 64
   pub few_checks : length P.checks ≤ 64
-  pub few_latches : length N.latches ≤ 64

@@ -14,7 +14,7 @@ use Rattle.lane_sim.specs.Bench.{BenchState, lane_of}
 use Rattle.fault_sim.specs.declared.step_view.StepView.{StepView}
 
 -- its bench, whose circuit is the netlist without its names; its plan; its fault, and the steps at which that is present; the
--- number of its next step, and the state bits from which that starts
+-- number of its next step, and the state bits from which that starts; what the nets at the latch inputs had in the last step
 pub record SimState : Type 0 where
   pub bench : BenchState
   pub plan : CodePlan
@@ -22,6 +22,7 @@ pub record SimState : Type 0 where
   pub when : List Span
   pub step : ℕ
   pub state : List Bool
+  pub next : List Bool
 
 -- no fault, or a listed one
 abbrev pub is_none_or_listed : Circuit → StuckAt → Bool
@@ -55,9 +56,22 @@ number_at bits nets = binary (map bits nets)
 pub record IsViewOf (N : Circuit) (P : CodePlan) (bits : ℕ → Bool) (view : StepView) : Type 0 where
   pub outputs : view.outputs ≡ number_at bits (take P.outputs N.outputs)
   pub checks : view.checks ≡ number_at bits P.checks
-  pub next : view.next ≡ number_at bits (next_nets N)
   pub rail1 : view.rail1 ≡ bits P.rail1
   pub rail2 : view.rail2 ≡ bits P.rail2
+
+-- what a step answers: what it shows, and the bits of the nets at the latch inputs
+pub record StepAnswer : Type 0 where
+  pub view : StepView
+  pub next : List Bool
+
+-- what a call of `step` answers that shows this and leaves this simulation
+abbrev pub answer_of : StepView → SimState → StepAnswer
+answer_of view new = record { view = view; next = new.next }
+
+-- what a step answers where nets have these bits
+pub record IsAnswerOf (N : Circuit) (P : CodePlan) (bits : ℕ → Bool) (answer : StepAnswer) : Type 0 where
+  pub view : IsViewOf N P bits answer.view
+  pub next : answer.next ≡ map bits (next_nets N)
 
 -- the bit of a watched net at a point of a bench
 abbrev pub point_bit : BenchState → ℕ → ℕ → Bool
@@ -85,11 +99,12 @@ pub record IsStill (old new : SimState) : Type 0 where
   pub same : IsSameSim old new
   pub step : new.step ≡ old.step
   pub state : new.state ≡ old.state
+  pub next : new.next ≡ old.next
 
--- what a call of `step` with the input bits x answers and leaves: in whatever valuation the step settles, the view shows it, and
+-- what a call of `step` with the input bits x answers and leaves: in whatever valuation the step settles, the answer is of it, and
 -- the state bits are the next ones; one step was taken, and the rest stays
-pub record IsCall (old : SimState) (x : List Bool) (view : StepView) (new : SimState) : Type 0 where
-  pub answers : (v : List Bool) → SettlesNext old x v → IsViewOf old.bench.circuit old.plan (bit v) view
+pub record IsCall (old : SimState) (x : List Bool) (answer : StepAnswer) (new : SimState) : Type 0 where
+  pub answers : (v : List Bool) → SettlesNext old x v → IsAnswerOf old.bench.circuit old.plan (bit v) answer
   pub state : (v : List Bool) → SettlesNext old x v → new.state ≡ next_state old.bench.circuit (next_fault old) v
   pub step : new.step ≡ old.step + 1
   pub same : IsSameSim old new

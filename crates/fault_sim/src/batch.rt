@@ -1,15 +1,17 @@
 //! Steps that are worked out 1,024 at once. Each step has a place: those from the state 0 come first, input by input, then
-//! those from the state 1, and so on. The places of a batch are those with the same quotient by 1,024.
+//! those from the state 1, and so on. The places of a batch are those with the same quotient by 1,024. States are numbers here, so there
+//! are at most 64 latches.
 ghost use Rattle.std.specs.Prelude.{◌≡◌, ◌≢◌, ℕ, ◌+◌, ◌*◌, ◌/◌, ◌%◌, ◌<◌, ◌≤◌, ◌^◌, length, map, All, IsSome};
 ghost use Rattle.tsc_bits.specs.Bits.{binary, bits_of};
 ghost use Rattle.tsc_net.specs.Fault.{stuck_at_or_none};
 ghost use Rattle.lane_sim.specs.Points.{ArePointsOf, KeepsOthers};
-ghost use Rattle.fault_sim.specs.Sim.{watched_nets, point_bit, IsViewOf};
+ghost use Rattle.fault_secure.specs.CodePlan.{next_nets};
+ghost use Rattle.fault_sim.specs.Sim.{watched_nets, number_at, point_bit, IsViewOf};
 ghost use Rattle.fault_sim.specs.Shown.{IsShownOf, taken_bit};
 ghost use Rattle.fault_sim.specs.Batch.{ArePlaceOutcomes, input_of, IsPoint, ShowsBatch};
 
 use crate::outcome::{Outcome, OutcomeList};
-use crate::shown::{Shown, next_state, view_of};
+use crate::shown::{Shown, next_number, state_number, view_of};
 use lane_sim::{Bench, Points};
 use tsc_net::{Bits, Fault};
 
@@ -22,6 +24,7 @@ pub(crate) fn put_outcomes(
     inputs: &[Bits],
     list: &mut OutcomeList,
 )
+    requires few { length bench.old.circuit.latches ≤ 64 }
     requires points { ArePointsOf bench.old.circuit points.old }
     requires shown { IsShownOf bench.old.circuit shown.now.plan.now shown.now }
     requires watched { bench.old.watched ≡ watched_nets bench.old.circuit shown.now.plan.now }
@@ -50,6 +53,7 @@ fn settle_for(
     place: usize,
     count: usize,
 )
+    requires few { length bench.old.circuit.latches ≤ 64 }
     requires points { ArePointsOf bench.old.circuit points.old }
     requires inputs { All (λ input. length input ≡ bench.old.circuit.inputs) inputs.now }
     requires states { count ≤ 2 ^ length bench.old.circuit.latches * length inputs.now }
@@ -75,6 +79,7 @@ fn settle_batch(
     first: usize,
     count: usize,
 )
+    requires few { length bench.old.circuit.latches ≤ 64 }
     requires points { ArePointsOf bench.old.circuit points.old }
     requires inputs { All (λ input. length input ≡ bench.old.circuit.inputs) inputs.now }
     requires states { count ≤ 2 ^ length bench.old.circuit.latches * length inputs.now }
@@ -92,6 +97,7 @@ fn settle_batch(
 
 /// Puts the places from `first` on, one for each point.
 fn put_batch(points: &mut Points, inputs: &[Bits], first: usize, count: usize)
+    requires few { points.old.latches ≤ 64 }
     requires inputs { All (λ input. length input ≡ points.old.inputs) inputs.now }
     requires states { count ≤ 2 ^ points.old.latches * length inputs.now }
     requires place { first < count }
@@ -107,6 +113,7 @@ fn put_batch(points: &mut Points, inputs: &[Bits], first: usize, count: usize)
 
 /// Puts a place at a point.
 fn put_place(points: &mut Points, inputs: &[Bits], place: usize, point: usize)
+    requires few { points.old.latches ≤ 64 }
     requires inputs { All (λ input. length input ≡ points.old.inputs) inputs.now }
     requires place { place < 2 ^ points.old.latches * length inputs.now }
     requires point { point < 1024 }
@@ -116,20 +123,23 @@ fn put_place(points: &mut Points, inputs: &[Bits], place: usize, point: usize)
     ensures latches { points.new.latches ≡ points.old.latches }
 {
     let width = inputs.len();
-    points.put(point, (place / width) as u64, &inputs[place % width]);
+    points.put_numbered(point, (place / width) as u64, &inputs[place % width]);
 }
 
 /// The outcome at a point of a settled bench.
 fn outcome_at(bench: &Bench, shown: &Shown, point: usize, fault: Option<Fault>) -> Outcome
     requires point { point < 1024 }
+    requires few { length bench.now.circuit.latches ≤ 64 }
     requires shown { IsShownOf bench.now.circuit shown.now.plan.now shown.now }
     requires watched { bench.now.watched ≡ watched_nets bench.now.circuit shown.now.plan.now }
     requires settled { IsSome bench.now.lanes }
     ensures view { IsViewOf bench.now.circuit shown.now.plan.now (point_bit bench.now point) result.view }
+    ensures next { result.next ≡ number_at (point_bit bench.now point) (next_nets bench.now.circuit) }
     ensures state { result.state ≡ binary (map (taken_bit (stuck_at_or_none fault) (point_bit bench.now point)) shown.now.latches.items) }
 {
     Outcome {
         view: view_of(bench, shown, point),
-        state: next_state(bench, shown, point, fault),
+        next: next_number(bench, shown, point),
+        state: state_number(bench, shown, point, fault),
     }
 }

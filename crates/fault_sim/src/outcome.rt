@@ -5,11 +5,14 @@ use crate::step_view::StepView;
 use std::alloc::{AllocError, Global};
 use tsc_io::Items;
 
-/// What a step shows, and the state that it leaves: a number of which the first latch is the most significant bit.
+/// What a step of a netlist with few latches shows, and the state that it leaves. The bits of the latches stand as a number, the first
+/// latch most significant.
 #[derive(Clone, Copy, Debug, PartialEq, Eq)]
 pub struct Outcome {
     /// What it shows.
     pub view: StepView,
+    /// The nets at the latch inputs, before the pins of the latches.
+    pub next: u64,
     /// The state that it leaves.
     pub state: u64,
 }
@@ -37,9 +40,9 @@ const BLANK: Outcome = Outcome {
     view: StepView {
         outputs: 0,
         checks: 0,
-        next: 0,
         rail1: false,
         rail2: false,
     },
+    next: 0,
     state: 0,
 };

@@ -1,5 +1,5 @@
 //! How the bits of a settled bench are read at a point.
-ghost use Rattle.std.specs.Prelude.{◌≡◌, ◌<◌, ◌≤◌, true, map, length, All, IsSome};
+ghost use Rattle.std.specs.Prelude.{◌≡◌, ◌<◌, ◌≤◌, true, map, length, All, IfOk, IsSome};
 ghost use Rattle.tsc_bits.specs.Bits.{binary};
 ghost use Rattle.fault_secure.specs.StuckAt.{on_pin};
 ghost use Rattle.tsc_net.specs.Fault.{stuck_at_or_none};
@@ -8,9 +8,10 @@ ghost use Rattle.fault_sim.specs.Sim.{point_bit};
 ghost use Rattle.fault_sim.specs.Shown.{taken_bit};
 
 use lane_sim::Bench;
+use std::alloc::{AllocError, Global};
 use tsc_bits::push_bit;
 use tsc_cover::bit_at;
-use tsc_net::{Fault, LatchView, NetId};
+use tsc_net::{Bits, Fault, LatchView, NetId};
 
 /// The bit of a watched net at a point.
 pub(crate) fn point_bit(bench: &Bench, point: usize, net: NetId) -> bool
@@ -37,7 +38,7 @@ pub(crate) fn number_at(bench: &Bench, point: usize, nets: &[NetId]) -> u64
     number
 }
 
-/// The bits that the pins of latches read at a point, as a number.
+/// The bits that the pins of few latches read at a point, as a number.
 pub(crate) fn state_at(
     bench: &Bench,
     point: usize,
@@ -58,16 +59,44 @@ pub(crate) fn state_at(
     state
 }
 
-/// The bits that latches hold first, as a number.
-pub(crate) fn first_state(latches: &[LatchView]) -> u64
-    requires few { length latches.now ≤ 64 }
-    ensures state { result ≡ binary (map (λ latch. latch.init) latches.now) }
+/// Reads the bits at the inputs of latches at a point into a list, and those that their pins read into another one. It takes no memory.
+pub(crate) fn read_latches(
+    bench: &Bench,
+    point: usize,
+    latches: &[LatchView],
+    fault: Option<Fault>,
+    next: &mut Bits,
+    state: &mut Bits,
+)
+    requires point { point < 1024 }
+    requires settled { IsSome bench.now.lanes }
+    requires watched { All (λ latch. has_place bench.now.watched latch.reads.number ≡ true) latches.now }
+    requires next { length next.old ≡ length latches.now }
+    requires state { length state.old ≡ length latches.now }
+    ensures next { next.new ≡ map (λ latch. point_bit bench.now point latch.reads.number) latches.now }
+    ensures state { state.new ≡ map (taken_bit (stuck_at_or_none fault) (point_bit bench.now point)) latches.now }
 {
-    let mut state = 0;
-    for latch in latches {
-        state = push_bit(state, latch.init);
+    for place in 0..latches.len() {
+        let latch = latches[place];
+        let bit = point_bit(bench, point, latch.reads);
+        next.replace(place, bit);
+        state.replace(place, pin_bit(fault, latch.out, bit));
     }
-    state
+}
+
+/// The bits that latches hold first.
+///
+/// # Errors
+///
+/// Want of memory.
+pub(crate) fn first_state(alloc: Global, latches: &[LatchView]) -> Result<Bits, AllocError>
+    ensures state { IfOk result (λ state. state ≡ map (λ latch. latch.init) latches.now) }
+{
+    let mut state = Bits::with_room(alloc, latches.len())?;
+    for latch in latches {
+        state.push(latch.init)?;
+    }
+    Ok(state)
 }
 
 /// What the pin of a latch reads whose net has this bit.

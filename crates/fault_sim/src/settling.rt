@@ -1,6 +1,5 @@
 //! The faults that may act, and how a bench is settled for one step.
-ghost use Rattle.std.specs.Prelude.{◌≡◌, ◌<◌, ◌^◌, List, Bool, length, IsSome};
-ghost use Rattle.tsc_bits.specs.Bits.{bits_of};
+ghost use Rattle.std.specs.Prelude.{◌≡◌, List, Bool, length, IsSome};
 ghost use Rattle.fault_secure.specs.Circuit.{bit};
 ghost use Rattle.fault_secure.specs.StuckAt.{present};
 ghost use Rattle.fault_secure.specs.Settle.{Settles};
@@ -41,23 +40,21 @@ pub(crate) fn if_present(is_present: bool, fault: Option<Fault>) -> Option<Fault
 pub(crate) fn settle(
     bench: &mut Bench,
     points: &mut Points,
-    state: u64,
+    state: &Bits,
     input: &Bits,
     fault: Option<Fault>,
 )
     requires points { ArePointsOf bench.old.circuit points.old }
     requires input { length input.now ≡ bench.old.circuit.inputs }
-    requires state { state < 2 ^ length bench.old.circuit.latches }
-    ensures one { HasOneValuation bench.old.circuit (stuck_at_or_none fault) (bit input.now) (bit (bits_of (length bench.old.circuit.latches) state)) }
-    ensures shows { (v : List Bool)
-        → Settles bench.old.circuit (stuck_at_or_none fault) (bit input.now) (bit (bits_of (length bench.old.circuit.latches) state)) v
-        → ShowsFirst bench.new v }
+    requires state { length state.now ≡ length bench.old.circuit.latches }
+    ensures one { HasOneValuation bench.old.circuit (stuck_at_or_none fault) (bit input.now) (bit state.now) }
+    ensures shows { (v : List Bool) → Settles bench.old.circuit (stuck_at_or_none fault) (bit input.now) (bit state.now) v → ShowsFirst bench.new v }
     ensures settled { IsSome bench.new.lanes }
     ensures points { ArePointsOf bench.old.circuit points.new }
     ensures circuit { bench.new.circuit ≡ bench.old.circuit }
     ensures watched { bench.new.watched ≡ bench.old.watched }
     ensures rows { bench.new.rows ≡ bench.old.rows }
 {
-    points.put(0, state, input);
+    points.put(0, state.as_slice(), input);
     bench.settle_first(points, fault.as_ref());
 }

@@ -2,19 +2,19 @@
 ghost use Rattle.std.specs.Prelude.{◌≡◌, ◌<◌, ◌≤◌, true, None, [], ◌∷◌, ◌++◌, length, map, take, IfOk, IsSome};
 ghost use Rattle.tsc_bits.specs.Bits.{binary};
 ghost use Rattle.fault_secure.specs.Circuit.{nets};
-ghost use Rattle.fault_secure.specs.CodePlan.{IsPlanOf};
+ghost use Rattle.fault_secure.specs.CodePlan.{IsPlanOf, next_nets};
 ghost use Rattle.tsc_net.specs.Order.{has_place};
 ghost use Rattle.tsc_net.specs.PlanView.{net_numbers};
 ghost use Rattle.tsc_net.specs.Fault.{stuck_at_or_none};
 ghost use Rattle.tsc_net.specs.Limits.{most_nets};
-ghost use Rattle.fault_sim.specs.Sim.{watched_nets, point_bit, IsViewOf};
+ghost use Rattle.fault_sim.specs.Sim.{watched_nets, number_at, point_bit, first_bit, IsViewOf};
 ghost use Rattle.fault_sim.specs.Shown.{AreLatchesOf, IsShownOf, taken_bit};
 
-use crate::reading::{number_at, point_bit, state_at};
+use crate::reading::{number_at, point_bit, read_latches, state_at};
 use crate::step_view::StepView;
 use lane_sim::Bench;
 use std::alloc::{AllocError, Global};
-use tsc_net::{Fault, LatchView, NetId, Netlist, Nets, Plan};
+use tsc_net::{Bits, Fault, LatchView, NetId, Netlist, Nets, Plan};
 
 /// A plan, which is borrowed, the nets that it shows of a netlist, and the latches.
 #[derive(Drop)]
@@ -40,7 +40,6 @@ pub(crate) fn shown_of<'a>(
     plan: &'a Plan,
 ) -> Result<Shown<'a>, AllocError>
     requires plan { IsPlanOf net.now.circuit plan.now }
-    requires latches { length net.now.circuit.latches ≤ 64 }
     ensures shown { IfOk result (IsShownOf net.now.circuit plan.now) }
 {
     let outputs = first_nets(alloc, net.outputs(), plan.outputs)?;
@@ -131,7 +130,6 @@ pub(crate) fn view_of(bench: &Bench, shown: &Shown, point: usize) -> StepView
     StepView {
         outputs: number_at(bench, point, &shown.outputs),
         checks: number_at(bench, point, plan.checks.as_slice()),
-        next: number_at(bench, point, &shown.next),
         rail1,
         rail2,
     }
@@ -152,13 +150,45 @@ fn rails_of(bench: &Bench, plan: &Plan, point: usize) -> (bool, bool)
     )
 }
 
-/// The state that a settled bench leaves at a point, under the fault if there is one.
-pub(crate) fn next_state(bench: &Bench, shown: &Shown, point: usize, fault: Option<Fault>) -> u64
+/// What the nets at the inputs of few latches have at a point of a settled bench, as a number.
+pub(crate) fn next_number(bench: &Bench, shown: &Shown, point: usize) -> u64
     requires point { point < 1024 }
+    requires few { length bench.now.circuit.latches ≤ 64 }
+    requires shown { IsShownOf bench.now.circuit shown.now.plan.now shown.now }
+    requires watched { bench.now.watched ≡ watched_nets bench.now.circuit shown.now.plan.now }
+    requires settled { IsSome bench.now.lanes }
+    ensures next { result ≡ number_at (point_bit bench.now point) (next_nets bench.now.circuit) }
+{
+    number_at(bench, point, &shown.next)
+}
+
+/// The state of few latches that a settled bench leaves at a point, under the fault if there is one, as a number.
+pub(crate) fn state_number(bench: &Bench, shown: &Shown, point: usize, fault: Option<Fault>) -> u64
+    requires point { point < 1024 }
+    requires few { length bench.now.circuit.latches ≤ 64 }
     requires shown { IsShownOf bench.now.circuit shown.now.plan.now shown.now }
     requires watched { bench.now.watched ≡ watched_nets bench.now.circuit shown.now.plan.now }
     requires settled { IsSome bench.now.lanes }
     ensures state { result ≡ binary (map (taken_bit (stuck_at_or_none fault) (point_bit bench.now point)) shown.now.latches.items) }
 {
     state_at(bench, point, &shown.latches, fault)
+}
+
+/// Reads what a settled bench has at the latch inputs at point 0, and the state that it leaves there, under the fault if there is one.
+pub(crate) fn read_state(
+    bench: &Bench,
+    shown: &Shown,
+    fault: Option<Fault>,
+    next: &mut Bits,
+    state: &mut Bits,
+)
+    requires shown { IsShownOf bench.now.circuit shown.now.plan.now shown.now }
+    requires watched { bench.now.watched ≡ watched_nets bench.now.circuit shown.now.plan.now }
+    requires settled { IsSome bench.now.lanes }
+    requires next { length next.old ≡ length bench.now.circuit.latches }
+    requires state { length state.old ≡ length bench.now.circuit.latches }
+    ensures next { next.new ≡ map (first_bit bench.now) (next_nets bench.now.circuit) }
+    ensures state { state.new ≡ map (taken_bit (stuck_at_or_none fault) (first_bit bench.now)) shown.now.latches.items }
+{
+    read_latches(bench, 0, &shown.latches, fault, next, state);
 }

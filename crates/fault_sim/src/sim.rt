@@ -1,6 +1,5 @@
 //! A simulation: a netlist step by step, with a fault that comes and goes.
 ghost use Rattle.std.specs.Prelude.{◌≡◌, ◌-◌, ◌*◌, ◌<◌, ◌≤◌, ◌^◌, ◌↔◌, Bool, false, List, length, All, IfOk, IsErrOf, IsSome};
-ghost use Rattle.tsc_bits.specs.Bits.{bits_of};
 ghost use Rattle.fault_secure.specs.Circuit.{nets, bit};
 ghost use Rattle.fault_secure.specs.StuckAt.{present};
 ghost use Rattle.fault_secure.specs.CodePlan.{IsPlanOf};
@@ -8,14 +7,14 @@ ghost use Rattle.fault_secure.specs.OneRun.{HasOneValuation};
 ghost use Rattle.tsc_net.specs.When.{has_step};
 ghost use Rattle.tsc_net.specs.Fault.{stuck_at_or_none};
 ghost use Rattle.tsc_net.specs.Limits.{most_nets};
-ghost use Rattle.fault_sim.specs.Sim.{is_fault, is_none_or_listed, next_fault, SettlesNext, ShowsFirst, IsCall, IsStill, IsOpened};
+ghost use Rattle.fault_sim.specs.Sim.{answer_of, is_fault, is_none_or_listed, next_fault, SettlesNext, ShowsFirst, IsCall, IsStill, IsOpened};
 ghost use Rattle.fault_sim.specs.Outcomes.{AreOutcomes};
 
 use crate::batch::put_outcomes;
 use crate::outcome::OutcomeList;
 use crate::reading::first_state;
 use crate::settling::{fault_at, if_present, is_none_or_listed, settle};
-use crate::shown::{Shown, bench_of, next_state, shown_of, view_of};
+use crate::shown::{Shown, bench_of, read_state, shown_of, view_of};
 use crate::sim_error::SimError;
 use crate::step_view::StepView;
 use lane_sim::{Bench, Points};
@@ -25,7 +24,8 @@ use tsc_net::{Bits, Fault, Netlist, Plan, When};
 
 /// A netlist that is run step by step, under no fault or one that is present at some steps. It borrows the netlist and its plan.
 /// It can't be dropped: `close` ends it. Contracts see its bench, whose circuit is the netlist without its names, its plan, its
-/// fault and the steps at which that is present. They see the number of its next step, from 0 on, and the state bits from which that starts.
+/// fault and the steps at which that is present. They see the number of its next step, from 0 on, the state bits from which that starts,
+/// and what the nets at the latch inputs had in the last step.
 pub struct Sim<'a> {
     bench: Bench<'a>,
     points: Points,
@@ -33,7 +33,8 @@ pub struct Sim<'a> {
     fault: Option<Fault>,
     when: When,
     step: u64,
-    state: u64,
+    state: Bits,
+    next: Bits,
 }
 
 impl<'a> Model for Sim<'a> {
@@ -63,7 +64,6 @@ impl<'a> Sim<'a> {
         when: When,
     ) -> Result<Sim<'a>, SimError>
         requires plan { IsPlanOf net.now.circuit plan.now }
-        requires latches { length net.now.circuit.latches ≤ 64 }
         requires nets { nets net.now.circuit ≤ most_nets }
         ensures opened { IfOk result (IsOpened net.now.circuit plan.now (stuck_at_or_none fault) when) }
         ensures not_listed { IsErrOf result SimError.NotListed ↔ (is_none_or_listed net.now.circuit (stuck_at_or_none fault) ≡ false) }
@@ -74,27 +74,35 @@ impl<'a> Sim<'a> {
         opened(alloc, net, plan, fault, when).map_err(SimError::Memory)
     }
 
-    /// Runs one step with these bits of the inputs, and says what it shows. It takes no memory. The fault is present where
-    /// `when` has the number of the step. A fault at a pin of a latch acts on the next state alone.
+    /// Runs one step with these bits of the inputs, and says what it shows; what the nets at the latch inputs had is in `next` then. It
+    /// takes no memory. The fault is present where `when` has the number of the step. A fault at a pin of a latch acts on the next state
+    /// alone.
     pub fn step(&mut self, input: &Bits) -> StepView
         requires input { length input.now ≡ self.old.bench.circuit.inputs }
         requires steps { self.old.step < 2 ^ 64 - 1 }
         ensures one { HasOneValuation self.old.bench.circuit (next_fault self.old) (bit input.now) (bit self.old.state) }
-        ensures call { IsCall self.old input.now result self.new }
+        ensures call { IsCall self.old input.now (answer_of result self.new) self.new }
         ensures bench { (v : List Bool) → SettlesNext self.old input.now v → ShowsFirst self.new.bench v }
         ensures settled { IsSome self.new.bench.lanes }
     {
         let fault = fault_at(&self.when, self.step, self.fault);
-        settle(&mut self.bench, &mut self.points, self.state, input, fault);
+        settle(&mut self.bench, &mut self.points, &self.state, input, fault);
         let view = view_of(&self.bench, &self.shown, 0);
-        self.state = next_state(&self.bench, &self.shown, 0, fault);
+        read_state(
+            &self.bench,
+            &self.shown,
+            fault,
+            &mut self.next,
+            &mut self.state,
+        );
         self.step += 1;
         view
     }
 
     /// What steps from each of the first `states` states over each of the inputs would show and leave, with the fault present
-    /// or absent at all of them: state by state, and for each state input by input. They are written over what is in the list,
-    /// and what is more there goes. It takes no step and no memory; 1,024 of them settle at once.
+    /// or absent at all of them: state by state, and for each state input by input. States are numbers here, so there may be at most 64
+    /// latches. They are written over what is in the list, and what is more there goes. It takes no step and no memory; 1,024 of them settle
+    /// at once.
     pub fn outcomes_into(
         &mut self,
         with_fault: bool,
@@ -102,6 +110,7 @@ impl<'a> Sim<'a> {
         inputs: &[Bits],
         into: &mut OutcomeList,
     )
+        requires few { length self.old.bench.circuit.latches ≤ 64 }
         requires inputs { All (λ input. length input ≡ self.old.bench.circuit.inputs) inputs.now }
         requires states { states ≤ 2 ^ length self.old.bench.circuit.latches }
         requires places { states * length inputs.now ≤ length into.old }
@@ -136,12 +145,21 @@ impl<'a> Sim<'a> {
         self.when.has(step)
     }
 
-    /// The state from which the next step starts, as a number, the first latch most significant.
-    pub fn state(&self) -> u64
-        ensures bits { bits_of (length self.now.bench.circuit.latches) result ≡ self.now.state }
-        ensures fits { result < 2 ^ length self.now.bench.circuit.latches }
+    /// The bits of the latches from which the next step starts, the first latch first.
+    pub fn state(&self) -> &[bool]
+        ensures bits { result.now ≡ self.now.state }
+        ensures sized { length result.now ≡ length self.now.bench.circuit.latches }
     {
-        self.state
+        self.state.as_slice()
+    }
+
+    /// What the nets at the latch inputs had in the last step, before the pins of the latches, the first latch first. Before the first step
+    /// it isn't told.
+    pub fn next(&self) -> &[bool]
+        ensures bits { result.now ≡ self.now.next }
+        ensures sized { length result.now ≡ length self.now.bench.circuit.latches }
+    {
+        self.next.as_slice()
     }
 
     /// The bench that it runs on. After a step it is settled, and has at point 0 of each watched lane what the net had in the
@@ -162,6 +180,7 @@ impl<'a> Sim<'a> {
             when: _,
             step: _,
             state: _,
+            next: _,
         } = self;
         bench.close();
     }
@@ -176,14 +195,14 @@ fn opened<'a>(
     when: When,
 ) -> Result<Sim<'a>, AllocError>
     requires plan { IsPlanOf net.now.circuit plan.now }
-    requires latches { length net.now.circuit.latches ≤ 64 }
     requires nets { nets net.now.circuit ≤ most_nets }
     ensures opened { IfOk result (IsOpened net.now.circuit plan.now (stuck_at_or_none fault) when) }
 {
     let shown = shown_of(alloc, net, plan)?;
     let points = Points::new(alloc, net)?;
+    let state = first_state(alloc, &shown.latches)?;
+    let next = first_state(alloc, &shown.latches)?;
     let bench = bench_of(alloc, net, &shown)?;
-    let state = first_state(&shown.latches);
     Ok(Sim {
         bench,
         points,
@@ -192,5 +211,6 @@ fn opened<'a>(
         when,
         step: 0,
         state,
+        next,
     })
 }

@@ -1,14 +1,13 @@
 //! What a step shows.
 
-/// What a step shows. A list of bits stands as a number, the first bit most significant.
+/// What a step shows, without the nets at the latch inputs, which `Sim::next` has. A list of bits stands as a number, the first bit most
+/// significant.
 #[derive(Clone, Copy, Debug, PartialEq, Eq)]
 pub struct StepView {
     /// The plan's outputs.
     pub outputs: u64,
     /// The checks.
     pub checks: u64,
-    /// The nets at the latch inputs, before the pins of the latches.
-    pub next: u64,
     /// The first rail.
     pub rail1: bool,
     /// The second rail.

@@ -62,7 +62,6 @@ impl<'a> FaultBench<'a> {
     /// Want of memory.
     pub fn open(alloc: Global, net: &'a Netlist) -> Result<FaultBench<'a>, AllocError>
         requires nets { nets net.now.circuit ≤ most_nets }
-        requires latches { length net.now.circuit.latches ≤ 64 }
         ensures circuit { IfOk result (λ bench. bench.circuit ≡ net.now.circuit) }
         ensures points { IfOk result (λ bench. bench.points ≡ None) }
     {

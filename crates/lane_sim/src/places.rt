@@ -96,7 +96,7 @@ fn put_block_states(points: &mut Points, plan: &Plan, block: usize, base: usize,
     ensures latches { points.new.latches ≡ points.old.latches }
 {
     let lanes = state_lanes(plan, points.inputs(), base, past);
-    for latch in 0..points.latches() {
+    for latch in 0..plan.states.width() {
         points.put_latch_lane(latch, block, lanes[latch]);
     }
 }

@@ -18,24 +18,23 @@ pub struct Points {
 }
 
 impl Model for Points {
-    ghost use Rattle.std.specs.Prelude.{◌≡◌, ◌+◌, ◌*◌, ◌≤◌, length};
+    ghost use Rattle.std.specs.Prelude.{◌≡◌, ◌+◌, ◌*◌, length};
     ghost use Rattle.lane_sim.specs.Points.{PointsState};
 
     ghost Value = { PointsState };
 
     ghost view = { λ points. record { inputs = points.inputs; latches = points.latches; words = points.words.items } };
 
-    ghost invariant = { λ points. (length points.words.items ≡ (points.inputs + points.latches) * 16) × (points.latches ≤ 64) };
+    ghost invariant = { λ points. length points.words.items ≡ (points.inputs + points.latches) * 16 };
 }
 
 impl Points {
-    /// Points of the netlist, all zeros. A netlist may have at most 64 latches.
+    /// Points of the netlist, all zeros.
     ///
     /// # Errors
     ///
     /// Want of memory.
     pub fn new(alloc: Global, net: &Netlist) -> Result<Points, AllocError>
-        requires latches { length net.now.circuit.latches ≤ 64 }
         ensures shape { IfOk result (ArePointsOf net.now.circuit) }
         ensures zeros { IfOk result (λ points. (p k : ℕ) → (point_input points p k ≡ false) × (point_state points p k ≡ false)) }
     {
@@ -49,10 +48,24 @@ impl Points {
         })
     }
 
-    /// Puts a point at `place`: the bits of the inputs, and a state whose first latch is the most significant bit. It takes
-    /// no memory.
-    pub fn put(&mut self, place: usize, state: u64, input: &Bits)
+    /// Puts a point at `place`: the bits of the inputs, and those of the latches, the first latch first. It takes no memory.
+    pub fn put(&mut self, place: usize, state: &[bool], input: &Bits)
         requires place { place < 1024 }
+        requires input { length input.now ≡ self.old.inputs }
+        requires state { length state.now ≡ self.old.latches }
+        ensures input { (k : ℕ) → point_input self.new place k ≡ bit input.now k }
+        ensures state { (k : ℕ) → point_state self.new place k ≡ bit state.now k }
+        ensures others { KeepsOthers place self.old self.new }
+        ensures inputs { self.new.inputs ≡ self.old.inputs }
+        ensures latches { self.new.latches ≡ self.old.latches }
+    {
+        put_point(&mut self.words, self.inputs, place, state, input.as_slice());
+    }
+
+    /// The same where there are few latches, with their bits as a number, the first latch most significant.
+    pub fn put_numbered(&mut self, place: usize, state: u64, input: &Bits)
+        requires place { place < 1024 }
+        requires few { self.old.latches ≤ 64 }
         requires input { length input.now ≡ self.old.inputs }
         requires state { state < 2 ^ self.old.latches }
         ensures input { (k : ℕ) → point_input self.new place k ≡ bit input.now k }
@@ -61,7 +74,7 @@ impl Points {
         ensures inputs { self.new.inputs ≡ self.old.inputs }
         ensures latches { self.new.latches ≡ self.old.latches }
     {
-        put_point(
+        put_numbered_point(
             &mut self.words,
             self.inputs,
             self.latches,
@@ -78,14 +91,6 @@ impl Points {
         self.inputs
     }
 
-    /// The number of latches, at most 64.
-    pub(crate) fn latches(&self) -> usize
-        ensures count { result ≡ self.now.latches }
-        ensures few { result ≤ 64 }
-    {
-        self.latches
-    }
-
     /// The lanes of the inputs and then of the latch outputs, sixteen words each.
     pub(crate) fn words(&self) -> &[u64]
         ensures words { result.now ≡ self.now.words }
@@ -96,7 +101,20 @@ impl Points {
 }
 
 /// Writes the bits of a point.
-fn put_point(
+fn put_point(words: &mut [u64], inputs: usize, place: usize, state: &[bool], input: &[bool])
+    requires place { place < 1024 }
+    requires sized { length input.now ≡ inputs }
+    requires room { length words.old ≡ (inputs + length state.now) * 16 }
+    ensures input { (k : ℕ) → k < inputs → source_bit words.new k place ≡ bit input.now k }
+    ensures state { (k : ℕ) → k < length state.now → source_bit words.new (inputs + k) place ≡ bit state.now k }
+    ensures points { (net p : ℕ) → p < 1024 → p ≢ place → source_bit words.new net p ≡ source_bit words.old net p }
+{
+    put_bits(words, 0, place, input);
+    put_bits(words, inputs, place, state);
+}
+
+/// Writes the bits of a point, where those of the state are a number.
+fn put_numbered_point(
     words: &mut [u64],
     inputs: usize,
     latches: usize,
@@ -112,19 +130,20 @@ fn put_point(
     ensures state { (k : ℕ) → k < latches → source_bit words.new (inputs + k) place ≡ bit (bits_of latches state) k }
     ensures points { (net p : ℕ) → p < 1024 → p ≢ place → source_bit words.new net p ≡ source_bit words.old net p }
 {
-    put_input(words, place, input);
+    put_bits(words, 0, place, input);
     put_state(words, inputs, latches, place, state);
 }
 
-/// Writes the bits of the inputs at a point.
-fn put_input(words: &mut [u64], place: usize, input: &[bool])
+/// Writes the bits of some nets at a point, one net after another from the net `first` on.
+fn put_bits(words: &mut [u64], first: usize, place: usize, bits: &[bool])
     requires place { place < 1024 }
-    requires room { length input.now * 16 ≤ length words.old }
-    ensures put { (k : ℕ) → k < length input.now → source_bit words.new k place ≡ bit input.now k }
+    requires room { (first + length bits.now) * 16 ≤ length words.old }
+    ensures put { (k : ℕ) → k < length bits.now → source_bit words.new (first + k) place ≡ bit bits.now k }
     ensures points { (net p : ℕ) → p < 1024 → p ≢ place → source_bit words.new net p ≡ source_bit words.old net p }
+    ensures below { (net p : ℕ) → p < 1024 → net < first → source_bit words.new net p ≡ source_bit words.old net p }
 {
-    for (net, value) in input.iter().enumerate() {
-        put_bit(words, net, place, *value);
+    for (index, value) in bits.iter().enumerate() {
+        put_bit(words, first + index, place, *value);
     }
 }
 

@@ -38,7 +38,7 @@ fn put_drawn(alloc: Global, points: &mut Points, inputs: usize) -> Result<(), Al
 {
     for place in 0..POINTS {
         let input = drawn_bits(alloc, place, inputs)?;
-        points.put(place, 0, &input);
+        points.put(place, &[], &input);
     }
     Ok(())
 }

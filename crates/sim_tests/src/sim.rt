@@ -1,5 +1,5 @@
 //! Two latches, each of which reads the other, step by step.
-ghost use Rattle.std.specs.Prelude.{◌≡◌, ◌≤◌, length, IfSome};
+ghost use Rattle.std.specs.Prelude.{◌≡◌, ◌+◌, ◌-◌, ◌<◌, ◌≤◌, ◌^◌, length, IfSome};
 ghost use Rattle.fault_secure.specs.CodePlan.{IsPlanOf};
 
 mod outcomes;
@@ -8,6 +8,7 @@ use fault_sim::{Sim, StepView};
 use shared_tests::net_and_plan_of;
 use std::alloc::Global;
 use std::test::Fail;
+use tsc_bits::number_of;
 use tsc_net::{Bits, Fault, NetId, PlannedNetlist, Span, When};
 
 /// The nets: 0 the input, 1 and 2 the latches. The first latch is the output, the second its check, and the second and the input stand for the rails.
@@ -23,7 +24,7 @@ fn opened<'a>(alloc: Global, read: &'a PlannedNetlist, fault: Fault, steps: Span
 {
     let mut when = When::new(alloc);
     when.push(steps).ok()?;
-    if read.net.latches() > 64 || read.net.nets() > 1000 {
+    if read.net.nets() > 1000 {
         return None;
     }
     match Sim::open(alloc, &read.net, &read.plan, Some(fault), when) {
@@ -32,22 +33,44 @@ fn opened<'a>(alloc: Global, read: &'a PlannedNetlist, fault: Fault, steps: Span
     }
 }
 
-/// What a step shows: the outputs, the checks, the nets at the latch inputs, and the rails.
+/// What a step shows: the outputs, the checks, the nets at the two latch inputs, and the rails.
 type View = (u64, u64, u64, bool, bool);
 
-fn view_of(step: StepView) -> View {
-    (step.outputs, step.checks, step.next, step.rail1, step.rail2)
+/// What a step shows with these bits at the latch inputs.
+fn view_of(step: StepView, next: &[bool]) -> View
+    requires few { length next.now ≤ 64 }
+{
+    (
+        step.outputs,
+        step.checks,
+        number_of(next),
+        step.rail1,
+        step.rail2,
+    )
+}
+
+/// What one step shows.
+fn one_step(sim: &mut Sim, input: &Bits) -> View
+    requires input { length input.now ≡ sim.old.bench.circuit.inputs }
+    requires steps { sim.old.step < 2 ^ 64 - 1 }
+    requires latches { length sim.old.bench.circuit.latches ≡ 2 }
+    ensures circuit { sim.new.bench.circuit ≡ sim.old.bench.circuit }
+    ensures step { sim.new.step ≡ sim.old.step + 1 }
+{
+    let view = sim.step(input);
+    view_of(view, sim.next())
 }
 
 /// What two steps show.
 fn two_steps(mut sim: Sim, input: &Bits) -> (View, View)
     requires input { length input.now ≡ sim.bench.circuit.inputs }
     requires first { sim.step ≡ 0 }
+    requires latches { length sim.bench.circuit.latches ≡ 2 }
 {
-    let first = sim.step(input);
-    let second = sim.step(input);
+    let first = one_step(&mut sim, input);
+    let second = one_step(&mut sim, input);
     sim.close();
-    (view_of(first), view_of(second))
+    (first, second)
 }
 
 /// A fault, the first and the last step at which it is present, and what two steps show with the input 1.
@@ -128,7 +151,7 @@ fn is_right(alloc: Global, read: &PlannedNetlist, row: &Row) -> Option<bool>
 {
     let (fault, first, last, one, two) = row;
     let input = Bits::from_slice(alloc, &[true]).ok()?;
-    if read.net.inputs() != 1 || *first > *last {
+    if read.net.inputs() != 1 || read.net.latches() != 2 || *first > *last {
         return None;
     }
     let steps = Span {

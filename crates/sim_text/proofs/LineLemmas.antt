@@ -1,5 +1,5 @@
 -- The lines that are written, and those of a run.
-use Rattle.std.proofs.Common.{◌≡◌, ℕ, suc, ◌+◌, ◌-◌, ◌<◌, Bool, List, ◌∷◌, codes, length, map, take, Result, Ok, Err, refl, sym, ap, ap₂, ◌∙◌, subst, arith}
+use Rattle.std.proofs.Common.{◌≡◌, ℕ, suc, ◌+◌, ◌-◌, ◌<◌, Bool, List, [], ◌∷◌, codes, length, map, take, Result, Ok, Err, refl, sym, ap, ap₂, ◌∙◌, subst, arith}
 use Rattle.std.proofs.lemmas.List.{length-map}
 use Rattle.tsc_bits.specs.Bits.{bit_worth, bits_of}
 use Rattle.tsc_bits.proofs.Bits.{bits_of-binary}
@@ -11,13 +11,12 @@ use Rattle.fault_secure.specs.CodePlan.{CodePlan, next_nets}
 use Rattle.fault_secure.proofs.OneRun.{one_run}
 use Rattle.buffered_sink.specs.Output.{Output}
 use Rattle.tsc_net.specs.declared.when.Span.{Span}
-use Rattle.fault_sim.specs.Sim.{SimState, number_at, IsViewOf, IsOpened}
+use Rattle.fault_sim.specs.Sim.{SimState, StepAnswer, number_at, IsAnswerOf, IsOpened}
 use Rattle.fault_sim.specs.Calls.{steps_held}
-use Rattle.fault_sim.specs.declared.step_view.StepView.{StepView}
 use Rattle.fault_sim.proofs.RunLemmas.{length-steps_held}
-use Rattle.sim_text.specs.StepLine.{digit, bits_word, step_bits, run_lines}
+use Rattle.sim_text.specs.StepLine.{digit, bits_word, word_width, step_bits, run_lines}
 use Rattle.sim_text.specs.Widths.{AreWidthsOf}
-use Rattle.sim_text.specs.Printed.{view_bits, IsRunText, Ends, RunEnds, RunsOn, RunsEnd, lines_on}
+use Rattle.sim_text.specs.Printed.{answer_bits, IsRunText, Ends, RunEnds, RunsOn, RunsEnd, lines_on}
 use Rattle.sim_text.specs.declared.run_error.RunError.{RunError}
 use Rattle.sim_text.specs.declared.run_error.RunError.TheVariants.{NotListed, Memory, WriteFault}
 use Rattle.sim_text.specs.declared.widths.Widths.{Widths}
@@ -35,6 +34,14 @@ some_bits n x some =
     let e : n ≡ suc (n - 1) = omega arith in
     ap (λ k. bits_word (bits_of k x)) e ∙ (some_of (n - 1) x ∙ ap (λ k. map digit (bits_of k x)) (sym e))
 
+-- the word of no bits, and how many characters it has
+pub word_of_none : (bits : List Bool) → length bits ≡ 0 → bits_word bits ≡ codes "."
+word_of_none [] none = refl
+word_of_none (b ∷ bits) none = absurd (omega arith)
+
+pub width_of_none : (bits : List Bool) → length bits ≡ 0 → word_width (length bits) ≡ 1
+width_of_none bits none = ap word_width none
+
 pub bits_more : (n place x : ℕ) → place < n → bits_of (n - place) x ≡ bit_worth (n - 1 - place) x ∷ bits_of (n - (place + 1)) x
 bits_more n place x below =
     let e : n - place ≡ suc (n - (place + 1)) = omega arith in
@@ -46,15 +53,15 @@ bits_more n place x below =
 bits_back : (bits : ℕ → Bool) (nets : List ℕ) (n number : ℕ) → n ≡ length nets → number ≡ number_at bits nets → bits_of n number ≡ map bits nets
 bits_back bits nets n number sized is = ap₂ bits_of (sized ∙ sym (length-map nets bits)) is ∙ bits_of-binary (map bits nets)
 
-pub view_is : (N : Circuit) (P : CodePlan) (widths : Widths) (v : List Bool) (view : StepView) → AreWidthsOf N P widths → IsViewOf N P (bit v) view
-    → view_bits widths view ≡ step_bits N P v
-view_is N P widths v view are shows =
-    let outputs = bits_back (bit v) (take P.outputs N.outputs) widths.outputs view.outputs are.outputs shows.outputs in
-    let checks = bits_back (bit v) P.checks widths.checks view.checks are.checks shows.checks in
-    let next = bits_back (bit v) (next_nets N) widths.next view.next are.next shows.next in
-    ap₂ (λ (a b : List Bool). record { outputs = a; checks = b; next = bits_of widths.next view.next; rail1 = view.rail1; rail2 = view.rail2 }) outputs checks
-    ∙ (ap (λ (c : List Bool). record { outputs = map (bit v) (take P.outputs N.outputs); checks = map (bit v) P.checks; next = c; rail1 = view.rail1; rail2 = view.rail2 }) next
-    ∙ ap₂ (λ (a b : Bool). record { outputs = map (bit v) (take P.outputs N.outputs); checks = map (bit v) P.checks; next = map (bit v) (next_nets N); rail1 = a; rail2 = b }) shows.rail1 shows.rail2)
+pub answer_is : (N : Circuit) (P : CodePlan) (widths : Widths) (v : List Bool) (answer : StepAnswer) → AreWidthsOf N P widths → IsAnswerOf N P (bit v) answer
+    → answer_bits widths answer ≡ step_bits N P v
+answer_is N P widths v answer are shows =
+    let view = answer.view in
+    let outputs = bits_back (bit v) (take P.outputs N.outputs) widths.outputs view.outputs are.outputs shows.view.outputs in
+    let checks = bits_back (bit v) P.checks widths.checks view.checks are.checks shows.view.checks in
+    ap₂ (λ (a b : List Bool). record { outputs = a; checks = b; next = answer.next; rail1 = view.rail1; rail2 = view.rail2 }) outputs checks
+    ∙ (ap (λ (c : List Bool). record { outputs = map (bit v) (take P.outputs N.outputs); checks = map (bit v) P.checks; next = c; rail1 = view.rail1; rail2 = view.rail2 }) shows.next
+    ∙ ap₂ (λ (a b : Bool). record { outputs = map (bit v) (take P.outputs N.outputs); checks = map (bit v) P.checks; next = map (bit v) (next_nets N); rail1 = a; rail2 = b }) shows.view.rail1 shows.view.rail2)
 
 -- ---- the text of a run
 

@@ -1,14 +1,14 @@
 -- Steps that are looked up.
-use Rattle.std.proofs.Common.{◌≡◌, ℕ, ◌+◌, ◌*◌, ◌^◌, ◌<◌, Bool, true, false, ◌&&◌, if◌then◌else◌, List, [], length, get_or, refl, sym, ap, ap₂, ◌∙◌, subst, arith}
+use Rattle.std.proofs.Common.{◌≡◌, ℕ, ◌+◌, ◌*◌, ◌^◌, ◌<◌, Bool, true, false, ◌&&◌, if◌then◌else◌, List, [], ◌∷◌, length, get_or, refl, sym, ap, ap₂, ◌∙◌, subst, arith}
 use Rattle.std.proofs.lemmas.Nat.{mul-add-lt}
 use Rattle.tsc_bits.specs.Bits.{bits_of, binary}
 use Rattle.tsc_bits.proofs.Bits.{binary-lt, bits_of-binary}
 use Rattle.fault_secure.specs.StuckAt.{StuckAt, NoFault, Stem, Pin, present}
 use Rattle.tsc_net.specs.When.{has_step}
 use Rattle.fault_sim.specs.Sim.{SimState, is_fault, IsStill, IsCall}
-use Rattle.fault_sim.specs.Outcomes.{IsOutcome, AreOutcomes}
+use Rattle.fault_sim.specs.Outcomes.{outcome_answer, IsOutcome, AreOutcomes}
 use Rattle.fault_sim.specs.declared.outcome.Outcome.{Outcome}
-use Rattle.fault_sim.proofs.OutcomeLemmas.{outcome_call}
+use Rattle.fault_sim.proofs.OutcomeLemmas.{outcome_leads}
 use Rattle.sim_text.specs.Tables.{AreTablesOf, AreWholeTables, sim_at, table_of}
 use Rattle.sim_text.specs.declared.tables.Tables.{Tables}
 
@@ -88,13 +88,21 @@ pub sim_start : (sim : SimState) (state : ℕ) → sim.step ≡ 0 → bits_of (l
 sim_start sim state first bits = ap₂ (λ (n : ℕ) (s : List Bool). record sim { step = n; state = s }) (sym first) bits
 
 -- without latches there is one state
+pub no_state : (n s : ℕ) (bits : List Bool) → length bits ≡ n → n ≡ 0 → bits_of n s ≡ bits
+no_state n s bits sized none = ap (λ k. bits_of k s) none ∙ empty_is bits (sized ∙ none)
+  where
+    empty_is : (list : List Bool) → length list ≡ 0 → [] ≡ list
+    empty_is [] empty = refl
+    empty_is (b ∷ list) empty = absurd (omega arith)
+
 pub one_state : (n s t : ℕ) → n ≡ 0 → bits_of n s ≡ bits_of n t
 one_state n s t none = ap (λ k. bits_of k s) none ∙ ap (λ k. bits_of k t) (sym none)
 
 pub outcome_is_call : (sim : SimState) (step state : ℕ) (x : List Bool) (outcome : Outcome)
     → IsOutcome sim.bench.circuit sim.plan (present (has_step sim.when step) sim.fault) x (bits_of (length sim.bench.circuit.latches) state) outcome
-    → IsCall (sim_at sim step state) x outcome.view (sim_at sim (step + 1) outcome.state)
-outcome_is_call sim step state x outcome is = outcome_call (sim_at sim step state) x outcome is
+    → IsCall (sim_at sim step state) x (outcome_answer (length sim.bench.circuit.latches) outcome) (sim_at sim (step + 1) outcome.state)
+outcome_is_call sim step state x outcome is = outcome_leads (sim_at sim step state) (sim_at sim (step + 1) outcome.state) x outcome is refl refl
+    (record { circuit = refl; watched = refl; rows = refl; plan = refl; fault = refl; when = refl })
 
 pub still_on : (a b c : SimState) → IsStill a b → IsStill b c → IsStill a c
 still_on a b c one more = record {
@@ -108,14 +116,15 @@ still_on a b c one more = record {
   };
   step = more.step ∙ one.step;
   state = more.state ∙ one.state;
+  next = more.next ∙ one.next;
 }
 
 -- the step at a place of a batch, whose first has the number `first`; without latches there is one state
 pub batch_call : (sim : SimState) (xs : List (List Bool)) (tables : Tables) (first place step : ℕ) (outcome : Outcome) → AreTablesOf sim 1 xs tables
     → length sim.bench.circuit.latches ≡ 0 → place < length xs → step ≡ first + place → outcome ≡ get_or (table_of sim step tables) place outcome
-    → IsCall (sim_at sim (first + place) 0) (get_or xs place []) outcome.view (sim_at sim (first + (place + 1)) 0)
+    → IsCall (sim_at sim (first + place) 0) (get_or xs place []) (outcome_answer (length sim.bench.circuit.latches) outcome) (sim_at sim (first + (place + 1)) 0)
 batch_call sim xs tables first place step outcome are none inside number is =
-    let IsSo : ℕ → List Bool → Type 0 = λ n s. IsCall (sim_at sim (first + place) 0) (get_or xs place []) outcome.view (record sim { step = n; state = s }) in
+    let IsSo : ℕ → List Bool → Type 0 = λ n s. IsCall (sim_at sim (first + place) 0) (get_or xs place []) (outcome_answer (length sim.bench.circuit.latches) outcome) (record sim { step = n; state = s }) in
     let here : outcome ≡ get_or (table_of sim (first + place) tables) place outcome = subst (λ (n : ℕ). outcome ≡ get_or (table_of sim n tables) place outcome) number is in
     let one = outcome_is_call sim (first + place) 0 (get_or xs place []) outcome
     (entry_is sim 1 xs tables are (first + place) 0 place place (omega arith) inside (omega arith) (get_or xs place []) outcome refl here) in

@@ -6,16 +6,18 @@ use Rattle.fault_secure.specs.Circuit.{Circuit, bit}
 use Rattle.fault_secure.specs.StuckAt.{StuckAt, present}
 use Rattle.fault_secure.specs.Settle.{Settles}
 use Rattle.fault_secure.specs.Run.{next_state, RunsFrom}
+use Rattle.fault_secure.specs.CodePlan.{CodePlan}
+use Rattle.fault_sim.specs.Outcomes.{outcome_answer}
+use Rattle.fault_sim.specs.declared.outcome.Outcome.{Outcome}
 use Rattle.buffered_sink.specs.Output.{Output, IsPrinted, IsCut, Prints}
 use Rattle.buffered_sink.proofs.PrintLemmas.{IsPrinted-nil, IsPrinted-then, IsCut-then, IsCut-more}
-use Rattle.fault_sim.specs.Sim.{SimState, IsStill, IsCall}
-use Rattle.fault_sim.specs.declared.step_view.StepView.{StepView}
+use Rattle.fault_sim.specs.Sim.{SimState, StepAnswer, IsStill, IsCall}
 use Rattle.sim_text.specs.StepLine.{StepBits, line_of, run_lines}
 use Rattle.sim_text.specs.Widths.{AreWidthsOf}
-use Rattle.sim_text.specs.Printed.{view_bits, RunsOn, lines_on, TakesTo, FailsIn, TakesOrFails}
+use Rattle.sim_text.specs.Printed.{answer_bits, RunsOn, lines_on, TakesTo, FailsIn, TakesOrFails}
 use Rattle.sim_text.specs.Tables.{sim_at}
 use Rattle.sim_text.specs.declared.widths.Widths.{Widths}
-use Rattle.sim_text.proofs.LineLemmas.{view_is}
+use Rattle.sim_text.proofs.LineLemmas.{answer_is}
 use Rattle.sim_text.proofs.TableLemmas.{sim_start}
 
 -- ---- runs
@@ -40,19 +42,19 @@ none_left N f s (v ∷ vs) runs = elim runs [ ]
 -- ---- one step
 
 -- what is left of a run after a step, and the lines of the run
-record StepOn (widths : Widths) (old new : SimState) (rest vs : List (List Bool)) (view : StepView) : Type 0 where
+record StepOn (widths : Widths) (old new : SimState) (rest vs : List (List Bool)) (answer : StepAnswer) : Type 0 where
   left : List (List Bool)
   runs : RunsOn new rest left
-  whole : line_of old.step (view_bits widths view) ++ lines_on new left ≡ lines_on old vs
+  whole : line_of old.step (answer_bits widths answer) ++ lines_on new left ≡ lines_on old vs
 
-step_on : (widths : Widths) (old new : SimState) (x : List Bool) (rest vs : List (List Bool)) (view : StepView) → AreWidthsOf old.bench.circuit old.plan widths
-    → IsCall old x view new → RunsOn old (x ∷ rest) vs → StepOn widths old new rest vs view
-step_on widths old new x rest vs view are call runs =
+step_on : (widths : Widths) (old new : SimState) (x : List Bool) (rest vs : List (List Bool)) (answer : StepAnswer) → AreWidthsOf old.bench.circuit old.plan widths
+    → IsCall old x answer new → RunsOn old (x ∷ rest) vs → StepOn widths old new rest vs answer
+step_on widths old new x rest vs answer are call runs =
     let N = old.bench.circuit in
     let P = old.plan in
     let one = run_step N old.fault old.state _ _ x rest vs runs in
-    let shown = view_is N P widths one.first view are (call.answers one.first one.settles) in
-    let ours : line_of old.step (view_bits widths view) ++ run_lines N P (old.step + 1) one.later ≡ run_lines N P old.step vs
+    let shown = answer_is N P widths one.first answer are (call.answers one.first one.settles) in
+    let ours : line_of old.step (answer_bits widths answer) ++ run_lines N P (old.step + 1) one.later ≡ run_lines N P old.step vs
     = ap (λ (bits : StepBits). line_of old.step bits ++ run_lines N P (old.step + 1) one.later) shown ∙ ap (run_lines N P old.step) (sym one.are) in
     record {
       left = one.later;
@@ -60,22 +62,32 @@ step_on widths old new x rest vs view are call runs =
       whole = rw (call.same.circuit, call.same.plan, call.step) ours;
     }
 
-module _ (widths : Widths) (old new : SimState) (x : List Bool) (rest : List (List Bool)) (view : StepView) (before after : Output)
-    (are : AreWidthsOf old.bench.circuit old.plan widths) (call : IsCall old x view new) where
-  pub step_takes : IsPrinted before after (line_of old.step (view_bits widths view)) → TakesTo old new (x ∷ rest) rest before after
+module _ (widths : Widths) (old new : SimState) (x : List Bool) (rest : List (List Bool)) (answer : StepAnswer) (before after : Output)
+    (are : AreWidthsOf old.bench.circuit old.plan widths) (call : IsCall old x answer new) where
+  pub step_takes : IsPrinted before after (line_of old.step (answer_bits widths answer)) → TakesTo old new (x ∷ rest) rest before after
   step_takes printed vs runs =
-      let on = step_on widths old new x rest vs view are call runs in
-      record { left = on.left; runs = on.runs; text = line_of old.step (view_bits widths view); printed = printed; whole = on.whole }
+      let on = step_on widths old new x rest vs answer are call runs in
+      record { left = on.left; runs = on.runs; text = line_of old.step (answer_bits widths answer); printed = printed; whole = on.whole }
 
-  pub step_fails : IsCut before after (line_of old.step (view_bits widths view)) → FailsIn old (x ∷ rest) before after
+  pub step_fails : IsCut before after (line_of old.step (answer_bits widths answer)) → FailsIn old (x ∷ rest) before after
   step_fails cut vs runs =
-      let on = step_on widths old new x rest vs view are call runs in
+      let on = step_on widths old new x rest vs answer are call runs in
       subst (IsCut before after) on.whole (IsCut-more (lines_on new on.left) cut)
 
-  pub step_ends : {T E : Type 0} (result : Result T E) (number : ℕ) → number ≡ old.step → Prints result before after (line_of number (view_bits widths view))
+  pub step_ends : {T E : Type 0} (result : Result T E) (number : ℕ) → number ≡ old.step → Prints result before after (line_of number (answer_bits widths answer))
       → TakesOrFails result old new (x ∷ rest) rest before after
-  step_ends (Ok done) number is printed = step_takes (subst (λ (n : ℕ). IsPrinted before after (line_of n (view_bits widths view))) is printed)
-  step_ends (Err fault) number is cut = step_fails (subst (λ (n : ℕ). IsCut before after (line_of n (view_bits widths view))) is cut)
+  step_ends (Ok done) number is printed = step_takes (subst (λ (n : ℕ). IsPrinted before after (line_of n (answer_bits widths answer))) is printed)
+  step_ends (Err fault) number is cut = step_fails (subst (λ (n : ℕ). IsCut before after (line_of n (answer_bits widths answer))) is cut)
+
+-- the line of an outcome, whose width is the number of latches
+module _ (N : Circuit) (P : CodePlan) (widths : Widths) (are : AreWidthsOf N P widths) (outcome : Outcome) (step : ℕ) (before after : Output) where
+  pub printed_width : IsPrinted before after (line_of step (answer_bits widths (outcome_answer widths.next outcome)))
+      → IsPrinted before after (line_of step (answer_bits widths (outcome_answer (length N.latches) outcome)))
+  printed_width printed = subst (λ (n : ℕ). IsPrinted before after (line_of step (answer_bits widths (outcome_answer n outcome)))) are.next printed
+
+  pub cut_width : IsCut before after (line_of step (answer_bits widths (outcome_answer widths.next outcome)))
+      → IsCut before after (line_of step (answer_bits widths (outcome_answer (length N.latches) outcome)))
+  cut_width cut = subst (λ (n : ℕ). IsCut before after (line_of step (answer_bits widths (outcome_answer n outcome)))) are.next cut
 
 -- ---- steps one after the other
 

@@ -7,22 +7,21 @@ use Rattle.fault_secure.specs.Run.{RunsFrom, HasOneRun}
 use Rattle.fault_secure.specs.CodePlan.{CodePlan}
 use Rattle.buffered_sink.specs.Output.{Output, IsPrinted, IsCut, Prints}
 use Rattle.tsc_net.specs.declared.when.Span.{Span}
-use Rattle.fault_sim.specs.Sim.{SimState}
+use Rattle.fault_sim.specs.Sim.{SimState, StepAnswer}
 use Rattle.fault_sim.specs.Calls.{steps_held}
-use Rattle.fault_sim.specs.declared.step_view.StepView.{StepView}
 use Rattle.sim_text.specs.StepLine.{StepBits, run_lines}
 use Rattle.sim_text.specs.declared.run_error.RunError.{RunError}
 use Rattle.sim_text.specs.declared.run_error.RunError.TheVariants.{NotListed, Memory, WriteFault}
 use Rattle.sim_text.specs.declared.widths.Widths.{Widths}
 
--- the bits of what a step shows, whose lists are numbers of these widths
-abbrev pub view_bits : Widths → StepView → StepBits
-view_bits widths view = record {
-  outputs = bits_of widths.outputs view.outputs;
-  checks = bits_of widths.checks view.checks;
-  next = bits_of widths.next view.next;
-  rail1 = view.rail1;
-  rail2 = view.rail2;
+-- the bits of what a step answers, whose outputs and checks are numbers of these widths
+abbrev pub answer_bits : Widths → StepAnswer → StepBits
+answer_bits widths answer = record {
+  outputs = bits_of widths.outputs answer.view.outputs;
+  checks = bits_of widths.checks answer.view.checks;
+  next = answer.next;
+  rail1 = answer.view.rail1;
+  rail2 = answer.view.rail2;
 }
 
 -- the text has the lines of the one run over the inputs xs, the fault f present at the steps of the spans

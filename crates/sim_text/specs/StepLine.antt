@@ -1,5 +1,5 @@
 -- The line of a step, and the lines of a run.
-use Rattle.std.specs.Prelude.{ℕ, ◌+◌, Bool, true, false, if◌then◌else◌, List, [], ◌∷◌, ◌++◌, codes, map, take}
+use Rattle.std.specs.Prelude.{ℕ, zero, suc, ◌+◌, Bool, true, false, if◌then◌else◌, List, [], ◌∷◌, ◌++◌, codes, map, take}
 use Rattle.std.specs.Fmt.{decimal}
 use Rattle.tsc_bits.specs.Bits.{same}
 use Rattle.fault_secure.specs.Circuit.{Circuit, bit}
@@ -22,6 +22,11 @@ digit true = 49
 abbrev pub bits_word : List Bool → List ℕ
 bits_word [] = codes "."
 bits_word (b ∷ bits) = map digit (b ∷ bits)
+
+-- how many characters a word of so many bits has
+abbrev pub word_width : ℕ → ℕ
+word_width zero = 1
+word_width (suc n) = suc n
 
 -- `quiet` where the rails differ, else `alarm`
 abbrev pub verdict : Bool → Bool → List ℕ

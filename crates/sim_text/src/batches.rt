@@ -8,7 +8,7 @@ ghost use Rattle.sim_text.specs.Printed.{PrintsRuns, RunsEnd, TakesOrFails};
 ghost use Rattle.sim_text.specs.Tables.{AreTablesOf, sim_at};
 
 use crate::run_error::RunError;
-use crate::step_line::print_step;
+use crate::step_line::print_outcome;
 use crate::steps::StepLines;
 use crate::stepwise::blank_bits;
 use crate::tables::{Tables, blank_tables, entry, put_tables};
@@ -123,6 +123,7 @@ fn print_in_batches<K: Sink>(
 
 /// Fills a batch with the steps from `first` on, as many as it has room for.
 fn fill(batch: &mut Batch, sim: &mut Sim, steps: &StepLines, first: usize)
+    requires latches { length sim.old.bench.circuit.latches ≡ 0 }
     requires inputs { All (λ input. length input ≡ sim.old.bench.circuit.inputs) steps.now }
     requires first { first < length steps.now }
     requires batch { IsBatchFor sim.old batch.old }
@@ -168,7 +169,7 @@ fn print_batch<K: Sink>(
     for place in 0..batch.inputs.len() {
         let step = (first + place) as u64;
         let outcome = entry(sim, &batch.tables, step, place);
-        print_step(sink, page, widths, step, outcome.view)?;
+        print_outcome(sink, page, widths, step, outcome)?;
     }
     Ok(())
 }

@@ -10,6 +10,7 @@
 
 mod all_inputs;
 mod batches;
+mod latch_word;
 mod run_error;
 mod simulation;
 mod state_walk;

@@ -46,7 +46,6 @@ pub fn simulate<K: Sink>(
     steps: &StepLines,
 ) -> Result<(), RunError>
     requires plan { IsPlanOf net.now.circuit plan.now }
-    requires latches { length net.now.circuit.latches ≤ 64 }
     requires nets { nets net.now.circuit ≤ most_nets }
     requires inputs { All (λ input. length input ≡ net.now.circuit.inputs) steps.now }
     ensures run { RunEnds net.now.circuit plan.now (stuck_at_or_none fault) when steps.now result (output (K.written sink.old) (K.faults sink.old) page.old) (output (K.written sink.new) (K.faults sink.new) page.new) }

@@ -10,7 +10,7 @@ ghost use Rattle.sim_text.specs.Tables.{AreWholeTables};
 
 use crate::all_inputs::all_inputs;
 use crate::run_error::RunError;
-use crate::step_line::print_step;
+use crate::step_line::print_outcome;
 use crate::steps::StepLines;
 use crate::stepwise::blank_bits;
 use crate::tables::{Tables, blank_tables, entry, put_tables};
@@ -107,12 +107,12 @@ fn print_entries<K: Sink>(
     requires first { sim.now.step ≡ 0 }
     ensures run { PrintsRuns result sim.now steps.now (output (K.written sink.old) (K.faults sink.old) page.old) (output (K.written sink.new) (K.faults sink.new) page.new) }
 {
-    let mut state = sim.state();
+    let mut state = number_of(sim.state());
     for step in 0..steps.len() {
         steps.read(step, bits);
         let place = place_of(state, bits.as_slice());
         let outcome = entry(sim, tables, step as u64, place);
-        print_step(sink, page, widths, step as u64, outcome.view)?;
+        print_outcome(sink, page, widths, step as u64, outcome)?;
         state = outcome.state;
     }
     Ok(())

@@ -1,20 +1,21 @@
 //! The line of a step.
-ghost use Rattle.std.specs.Prelude.{◌≡◌, ◌≤◌, ◌∷◌, ◌++◌, OnOk};
+ghost use Rattle.std.specs.Prelude.{◌≡◌, ◌≤◌, Bool, List, ◌∷◌, ◌++◌, OnOk};
 ghost use Rattle.tsc_bits.specs.Bits.{bits_of};
 ghost use Rattle.buffered_sink.specs.Output.{Prints, output};
 ghost use Rattle.sim_text.specs.StepLine.{bits_word, line_of, rails_end};
 ghost use Rattle.sim_text.specs.Widths.{AreFew};
-ghost use Rattle.sim_text.specs.Printed.{view_bits};
+ghost use Rattle.sim_text.specs.Printed.{answer_bits};
+ghost use Rattle.fault_sim.specs.Outcomes.{outcome_answer};
 
 use crate::step_word::StepWord;
 use crate::widths::Widths;
 use buffered_sink::{Page, Piece, print, print_all};
-use fault_sim::StepView;
+use fault_sim::{Outcome, StepView};
 use std::alloc::AllocError;
 use tsc_io::{Bytes, Sink, WriteFault};
 
 /// Prints the line of a step: its number, the outputs, the checks, the nets at the latch inputs, the rails, and whether the
-/// alarm is on.
+/// alarm is on. The bits at the latch inputs stand as a blank and a word, `next`.
 ///
 /// # Errors
 ///
@@ -25,21 +26,41 @@ pub(crate) fn print_step<K: Sink>(
     widths: Widths,
     step: u64,
     view: StepView,
+    next: &[u8],
 ) -> Result<(), WriteFault>
     requires few { AreFew widths }
-    ensures printed { Prints result (output (K.written sink.old) (K.faults sink.old) page.old) (output (K.written sink.new) (K.faults sink.new) page.new) (line_of step (view_bits widths view)) }
+    ensures printed { (bits : List Bool) → next.now ≡ 32 ∷ bits_word bits → Prints result (output (K.written sink.old) (K.faults sink.old) page.old) (output (K.written sink.new) (K.faults sink.new) page.new) (line_of step (answer_bits widths (record { view = view; next = bits }))) }
 {
     let outputs = StepWord::of(view.outputs, widths.outputs);
     let checks = StepWord::of(view.checks, widths.checks);
-    let next = StepWord::of(view.next, widths.next);
     let line = [
         Piece::Number(step),
         Piece::Text(outputs.as_slice()),
         Piece::Text(checks.as_slice()),
-        Piece::Text(next.as_slice()),
+        Piece::Text(next),
         Piece::Text(rails_end(view.rail1, view.rail2)),
     ];
     print_all(sink, page, &line)
+}
+
+/// Prints the line of a step with this outcome, of a netlist with few latches.
+///
+/// # Errors
+///
+/// The sink failed.
+pub(crate) fn print_outcome<K: Sink>(
+    sink: &mut K,
+    page: &mut Page,
+    widths: Widths,
+    step: u64,
+    outcome: Outcome,
+) -> Result<(), WriteFault>
+    requires few { AreFew widths }
+    requires few_latches { widths.next ≤ 64 }
+    ensures printed { Prints result (output (K.written sink.old) (K.faults sink.old) page.old) (output (K.written sink.new) (K.faults sink.new) page.new) (line_of step (answer_bits widths (outcome_answer widths.next outcome))) }
+{
+    let next = StepWord::of(outcome.next, widths.next);
+    print_step(sink, page, widths, step, outcome.view, next.as_slice())
 }
 
 /// Prints a blank, and the last `count` bits of a number as a word: `.` where there is none.

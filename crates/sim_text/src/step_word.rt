@@ -70,7 +70,7 @@ fn put_digits(characters: &mut [u8], bits: u64, count: usize)
 }
 
 /// The character of a bit.
-fn digit(bit: bool) -> u8
+pub(crate) fn digit(bit: bool) -> u8
     ensures digit { result ≡ digit bit }
 {
     if bit { b'1' } else { b'0' }

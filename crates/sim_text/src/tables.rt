@@ -42,6 +42,7 @@ fn blank_faulty(alloc: Global, sim: &Sim, count: usize) -> Result<OutcomeList, A
 
 /// Writes the tables of steps from the first states over the inputs. It takes no memory.
 pub(crate) fn put_tables(sim: &mut Sim, states: usize, inputs: &[Bits], tables: &mut Tables)
+    requires few { length sim.old.bench.circuit.latches ≤ 64 }
     requires inputs { All (λ input. length input ≡ sim.old.bench.circuit.inputs) inputs.now }
     requires states { states ≤ 2 ^ length sim.old.bench.circuit.latches }
     requires room { HaveRoom sim.old (states * length inputs.now) tables.old }
@@ -54,6 +55,7 @@ pub(crate) fn put_tables(sim: &mut Sim, states: usize, inputs: &[Bits], tables: 
 
 /// Writes the table of steps with the fault, if there is one.
 fn put_faulty(sim: &mut Sim, states: usize, inputs: &[Bits], faulty: &mut OutcomeList)
+    requires few { length sim.old.bench.circuit.latches ≤ 64 }
     requires inputs { All (λ input. length input ≡ sim.old.bench.circuit.inputs) inputs.now }
     requires states { states ≤ 2 ^ length sim.old.bench.circuit.latches }
     requires room { is_fault sim.old.fault ≡ true → states * length inputs.now ≤ length faulty.old }

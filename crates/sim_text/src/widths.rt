@@ -11,7 +11,7 @@ pub(crate) struct Widths {
     pub outputs: usize,
     /// The number of checks.
     pub checks: usize,
-    /// The number of nets at latch inputs, one for each latch.
+    /// The number of latches.
     pub next: usize,
 }
 

@@ -62,6 +62,7 @@ fn is_seen(
     requires inputs { All (λ input. length input ≡ 1) inputs.now }
     requires two { length inputs.now ≡ 2 }
     requires one { sim.old.bench.circuit.inputs ≡ 1 }
+    requires few { length sim.old.bench.circuit.latches ≤ 64 }
     requires states { 4 ≤ 2 ^ length sim.old.bench.circuit.latches }
     ensures circuit { sim.new.bench.circuit ≡ sim.old.bench.circuit }
 {
@@ -77,6 +78,7 @@ fn is_seen(
 /// Whether steps without the fault and with it are right.
 fn both_are_seen(alloc: Global, sim: &mut Sim) -> Result<bool, AllocError>
     requires one { sim.old.bench.circuit.inputs ≡ 1 }
+    requires few { length sim.old.bench.circuit.latches ≤ 64 }
     requires states { 4 ≤ 2 ^ length sim.old.bench.circuit.latches }
 {
     let inputs = both_inputs(alloc)?;

@@ -27,7 +27,7 @@ loop-place-preserved c =
     outcome_is bench shown f (place % 1024) (input_of xs place) (state_of bench.circuit xs place) c.outcome_at-outcome.result is_shown
     (watched ∙ (c.requires.watched ∙ ap (λ (C : Circuit). watched_nets C shown.plan.now) (sym circuit)))
     (λ v settles. batch.shows place v c.loop-place-test.true refl settles)
-    c.outcome_at-outcome.ensures.view c.outcome_at-outcome.ensures.state in
+    c.outcome_at-outcome.ensures.view c.outcome_at-outcome.ensures.next c.outcome_at-outcome.ensures.state in
     record {
       points = subst (λ (C : Circuit). ArePointsOf C c.settle_for.new.points) old.circuit c.settle_for.ensures.points;
       circuit = circuit;

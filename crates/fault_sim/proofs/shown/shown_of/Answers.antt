@@ -18,6 +18,5 @@ returns c =
         next = c.in_ok-next.ensures.reads ∙ ap reads_of c.deref.ensures.value;
         few_outputs = few_first c.outputs.result.now c.in_ok-outputs.outputs.items c.plan.inside.outputs P.outputs c.in_ok-outputs.ensures.nets count made.most_outputs;
         few_checks = few_checks P made;
-        few_latches = c.requires.latches;
       };
     }

@@ -1,8 +1,8 @@
 use Rattle.std.proofs.Common.{take, ap, ◌∙◌}
-use Rattle.fault_secure.specs.CodePlan.{CodePlan, next_nets}
+use Rattle.fault_secure.specs.CodePlan.{CodePlan}
 use Rattle.tsc_net.specs.PlanView.{net_numbers}
 use Rattle.fault_sim.specs.Sim.{point_bit}
-use Rattle.fault_sim.proofs.ShownLemmas.{outputs_are_watched, checks_are_watched, next_are_watched, next_numbers, number_of, rail1_is_watched, rail2_is_watched}
+use Rattle.fault_sim.proofs.ShownLemmas.{outputs_are_watched, checks_are_watched, number_of, rail1_is_watched, rail2_is_watched}
 use Rattle.fault_sim.proofs.shown.view_of.Goals as goal
 
 pub rails_of-rail1-requires-clause-first : goal.rails_of-rail1-requires-clause-first
@@ -23,13 +23,6 @@ number_at-requires-2-clause-watched c =
     checks_are_watched bench.circuit c.args.shown.now.plan.now bench.watched c.requires.watched c.as_slice.result.now
     (ap net_numbers c.as_slice.ensures.whole ∙ ap (λ (P : CodePlan). P.checks) c.plan.view_is)
 
-pub number_at-requires-3-clause-watched : goal.number_at-requires-3-clause-watched
-number_at-requires-3-clause-watched c =
-    let bench = c.args.bench.now in
-    let shown = c.args.shown.now in
-    next_are_watched bench.circuit shown.plan.now bench.watched c.requires.watched c.deref-2.result.now
-    (ap net_numbers (c.deref-2.ensures.value ∙ c.requires.shown.next) ∙ next_numbers bench.circuit shown.latches.items c.requires.shown.latches)
-
 pub returns : goal.returns
 returns c =
     let bench = c.args.bench.now in
@@ -41,9 +34,6 @@ returns c =
             ∙ number_of (point_bit bench c.args.point) c.deref.result.now (take shown.plan.now.outputs N.outputs) (ap net_numbers c.deref.ensures.value ∙ c.requires.shown.outputs);
         checks = c.number_at-2.ensures.number
             ∙ number_of (point_bit bench c.args.point) c.as_slice.result.now shown.plan.now.checks (ap net_numbers c.as_slice.ensures.whole ∙ ap (λ (P : CodePlan). P.checks) c.plan.view_is);
-        next = c.number_at-3.ensures.number
-            ∙ number_of (point_bit bench c.args.point) c.deref-2.result.now (next_nets N)
-            (ap net_numbers (c.deref-2.ensures.value ∙ c.requires.shown.next) ∙ next_numbers N shown.latches.items c.requires.shown.latches);
         rail1 = c.rails_of-rail1.ensures.first;
         rail2 = c.rails_of-rail1.ensures.second;
       };

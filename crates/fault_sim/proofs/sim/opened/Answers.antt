@@ -1,5 +1,5 @@
 use Rattle.std.proofs.Common.{refl}
-use Rattle.fault_sim.proofs.OpenLemmas.{shown_first, watched_first, watched_plan, points_first, state_first_fits, state_first}
+use Rattle.fault_sim.proofs.OpenLemmas.{shown_first, watched_first, watched_plan, points_first, state_first_sized, state_first}
 use Rattle.fault_sim.proofs.sim.opened.Goals as goal
 
 pub invariant_of-result : goal.invariant_of-result
@@ -14,7 +14,8 @@ invariant_of-result c =
       points = points_first N P shown is bench circuit c.in_ok-points.points c.in_ok-points.ensures.shape;
       shown = shown_first N P shown is bench circuit;
       watched = watched_first N P shown is bench circuit c.in_ok-bench.ensures.watched;
-      state = state_first_fits N P shown is bench circuit c.deref.result.now c.first_state-state.result c.deref.ensures.value c.first_state-state.ensures.state;
+      state = state_first_sized N P shown is bench circuit c.deref.result.now c.in_ok-state.state c.deref.ensures.value c.in_ok-state.ensures.state;
+      next = state_first_sized N P shown is bench circuit c.deref-2.result.now c.in_ok-next.next c.deref-2.ensures.value c.in_ok-next.ensures.state;
     }
 
 pub returns : goal.returns
@@ -34,6 +35,6 @@ returns c =
         fault = refl;
         when = refl;
         step = refl;
-        state = state_first N P shown is bench circuit c.deref.result.now c.first_state-state.result c.deref.ensures.value c.first_state-state.ensures.state;
+        state = state_first N P shown is bench circuit c.deref.result.now c.in_ok-state.state c.deref.ensures.value c.in_ok-state.ensures.state;
       };
     }

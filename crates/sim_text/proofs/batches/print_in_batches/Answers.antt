@@ -1,21 +1,21 @@
-use Rattle.std.proofs.Common.{◌+◌, length, drop, refl, ◌∙◌, arith}
+use Rattle.std.proofs.Common.{◌+◌, length, drop, refl, sym, ap, ◌∙◌, arith}
 use Rattle.std.proofs.lemmas.List.{drop_all}
 use Rattle.buffered_sink.proofs.PrintLemmas.{exits}
 use Rattle.sim_text.specs.Tables.{sim_at}
 use Rattle.sim_text.proofs.TakeLemmas.{takes_start, takes_ends, batch_takes, batch_fails}
-use Rattle.sim_text.proofs.TableLemmas.{one_state, still_on}
+use Rattle.sim_text.proofs.TableLemmas.{no_state, still_on}
 use Rattle.sim_text.proofs.batches.print_in_batches.Goals as goal
 
 pub loop-first-init : goal.loop-first-init
 loop-first-init g c =
     let sim = c.args.sim.now in
     record {
-      still = record { same = record { circuit = refl; watched = refl; rows = refl; plan = refl; fault = refl; when = refl }; step = refl; state = refl };
+      still = record { same = record { circuit = refl; watched = refl; rows = refl; plan = refl; fault = refl; when = refl }; step = refl; state = refl; next = refl };
       within = omega arith;
       batch = c.requires.batch;
       some = c.requires.some;
       took = takes_start sim 0 c.args.steps.now _ c.requires.first
-          (one_state (length sim.bench.circuit.latches) 0 c.state-state.result c.requires.latches ∙ c.state-state.ensures.bits);
+          (no_state (length sim.bench.circuit.latches) 0 sim.state (ap length (sym c.state-state.ensures.bits) ∙ c.state-state.ensures.sized) c.requires.latches);
     }
 
 pub returns-in_err-print_batch : goal.returns-in_err-print_batch

@@ -2,7 +2,7 @@ use Rattle.std.proofs.Common.{◌+◌, ◌-◌, ◌<◌, [], length, drop, slice
 use Rattle.std.proofs.lemmas.List.{get_or-drop, length-take}
 use Rattle.std.proofs.lemmas.List.Elements.{All-set}
 use Rattle.sim_text.specs.Batches.{FitsEach}
-use Rattle.sim_text.proofs.WordLemmas.{written_more}
+use Rattle.fault_sim.proofs.WrittenLemmas.{written_more}
 use Rattle.sim_text.proofs.BatchLemmas.{fits_on}
 use Rattle.sim_text.proofs.batches.read_inputs.Goals as goal
 

@@ -1,9 +1,11 @@
 use Rattle.std.proofs.Common.{◌≡◌, ◌+◌, ◌*◌, ◌^◌, ◌<◌, Bool, List, [], length, drop, sym, ap, ◌∙◌, arith}
 use Rattle.std.proofs.lemmas.List.{drop_all}
 use Rattle.tsc_bits.specs.Bits.{binary}
+use Rattle.fault_sim.specs.Outcomes.{outcome_answer}
+use Rattle.fault_sim.proofs.ShownLemmas.{state_of_number, state_fits}
 use Rattle.buffered_sink.proofs.PrintLemmas.{exits}
 use Rattle.sim_text.specs.Tables.{sim_at}
-use Rattle.sim_text.proofs.TakeLemmas.{step_takes, step_fails, next_left, takes_start, takes_more, fails_more, takes_ends}
+use Rattle.sim_text.proofs.TakeLemmas.{step_takes, step_fails, printed_width, cut_width, next_left, takes_start, takes_more, fails_more, takes_ends}
 use Rattle.sim_text.proofs.TableLemmas.{whole_inside, whole_is, outcome_is_call}
 use Rattle.sim_text.proofs.state_walk.print_entries.Goals as goal
 
@@ -24,8 +26,8 @@ entry-outcome-requires g c =
       place = whole_inside sim c.args.tables.now c.requires.tables x sized c.loop-step.step c.loop-step.state c.place_of-place.result c.loop-step.invariant.fits at;
     }
 
-pub returns-in_err-print_step : goal.returns-in_err-print_step
-returns-in_err-print_step g c =
+pub returns-in_err-print_outcome : goal.returns-in_err-print_outcome
+returns-in_err-print_outcome g c =
     let sim = c.args.sim.now in
     let xs = c.args.steps.now in
     let step = c.loop-step.step in
@@ -41,8 +43,9 @@ returns-in_err-print_step g c =
       run = λ vs runs. exits _ c.from_residual.result c.from_residual.ensures.1
           (fails_more sim (sim_at sim step state) (sim_at sim (step + 1) outcome.state) xs (drop step xs) (drop (step + 1) xs) x _ _ _
           (next_left xs step x inside c.read.ensures.bits) c.loop-step.invariant.took
-          (step_fails c.args.widths (sim_at sim step state) (sim_at sim (step + 1) outcome.state) x (drop (step + 1) xs) outcome.view _ _ c.requires.widths
-          (outcome_is_call sim step state x outcome is) c.in_err-print_step.ensures.printed) vs runs);
+          (step_fails c.args.widths (sim_at sim step state) (sim_at sim (step + 1) outcome.state) x (drop (step + 1) xs) (outcome_answer (length sim.bench.circuit.latches) outcome) _ _ c.requires.widths
+          (outcome_is_call sim step state x outcome is)
+          (cut_width sim.bench.circuit sim.plan c.args.widths c.requires.widths outcome step _ _ c.in_err-print_outcome.ensures.printed)) vs runs);
     }
 
 pub loop-step-preserved : goal.loop-step-preserved
@@ -63,8 +66,9 @@ loop-step-preserved g c =
       bits = sized;
       took = takes_more sim (sim_at sim step state) (sim_at sim (step + 1) outcome.state) xs (drop step xs) (drop (step + 1) xs) x _ _ _
           (next_left xs step x inside c.read.ensures.bits) c.loop-step.invariant.took
-          (step_takes c.args.widths (sim_at sim step state) (sim_at sim (step + 1) outcome.state) x (drop (step + 1) xs) outcome.view _ _ c.requires.widths
-          (outcome_is_call sim step state x outcome is) c.in_ok-print_step.ensures.printed);
+          (step_takes c.args.widths (sim_at sim step state) (sim_at sim (step + 1) outcome.state) x (drop (step + 1) xs) (outcome_answer (length sim.bench.circuit.latches) outcome) _ _ c.requires.widths
+          (outcome_is_call sim step state x outcome is)
+          (printed_width sim.bench.circuit sim.plan c.args.widths c.requires.widths outcome step _ _ c.in_ok-print_outcome.ensures.printed));
     }
 
 pub returns : goal.returns
@@ -77,8 +81,11 @@ returns g c =
     }
 
 pub loop-step-init : goal.loop-step-init
-loop-step-init g c = record {
-  fits = c.state-state.ensures.fits;
-  bits = c.requires.bits;
-  took = takes_start c.args.sim.now c.state-state.result c.args.steps.now _ c.requires.first c.state-state.ensures.bits;
-}
+loop-step-init g c =
+    let N = c.args.sim.now.bench.circuit in
+    record {
+      fits = state_fits N c.state.result.now c.number_of-state.result c.number_of-state.ensures.number c.state.ensures.sized;
+      bits = c.requires.bits;
+      took = takes_start c.args.sim.now c.number_of-state.result c.args.steps.now _ c.requires.first
+          (state_of_number N c.state.result.now c.number_of-state.result c.number_of-state.ensures.number c.state.ensures.sized ∙ c.state.ensures.bits);
+    }

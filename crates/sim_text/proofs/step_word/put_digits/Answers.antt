@@ -1,7 +1,8 @@
 use Rattle.std.proofs.Common.{◌+◌, ◌∷◌, map, set, refl, sym, ap, ◌∙◌, length-set, arith}
 use Rattle.tsc_bits.specs.Bits.{bits_of}
 use Rattle.sim_text.specs.StepLine.{digit}
-use Rattle.sim_text.proofs.WordLemmas.{written_more, word_all, length-word, digit_at}
+use Rattle.fault_sim.proofs.WrittenLemmas.{written_more}
+use Rattle.sim_text.proofs.WordLemmas.{word_all, length-word, digit_at}
 use Rattle.sim_text.proofs.step_word.put_digits.Goals as goal
 
 pub loop-place-preserved : goal.loop-place-preserved

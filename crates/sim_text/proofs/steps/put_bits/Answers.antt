@@ -1,7 +1,7 @@
 use Rattle.std.proofs.Common.{false, length, map, sym, ap, ◌∙◌, length-set, arith}
 use Rattle.std.proofs.lemmas.List.{get_or-map, length-map}
 use Rattle.sim_text.specs.StepLines.{bit_of}
-use Rattle.sim_text.proofs.WordLemmas.{written_more, bits_all}
+use Rattle.fault_sim.proofs.WrittenLemmas.{written_more, written_whole}
 use Rattle.sim_text.proofs.steps.put_bits.Goals as goal
 
 pub loop-place-preserved : goal.loop-place-preserved
@@ -22,5 +22,5 @@ returns c =
     let word = c.args.word.now in
     let many = length-map word bit_of in
     record {
-      bits = bits_all (map bit_of word) c.loop-place.bits c.loop-place.place (omega (arith, many)) (c.loop-place.invariant.sized ∙ sym many) c.loop-place.invariant.read;
+      bits = written_whole (map bit_of word) c.loop-place.bits c.loop-place.place (omega (arith, many)) (c.loop-place.invariant.sized ∙ sym many) c.loop-place.invariant.read;
     }

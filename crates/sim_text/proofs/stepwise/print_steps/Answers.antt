@@ -33,6 +33,7 @@ loop-step-preserved g c =
       plan = same.plan ∙ old.plan;
       number = c.print_call.ensures.step ∙ ap (λ n. n + 1) old.number;
       bits = ap length read ∙ c.requires.inputs step [] inside;
+      word = c.print_call.ensures.word ∙ old.word;
       took = takes_more c.args.sim.now c.loop-step.sim c.print_call.new.sim xs (drop step xs) (drop (step + 1) xs) c.read.new.bits _ _ _
           (next_left xs step c.read.new.bits inside read) old.took (c.in_ok-print_call.ensures.line (drop (step + 1) xs));
     }

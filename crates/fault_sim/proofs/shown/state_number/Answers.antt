@@ -2,7 +2,7 @@ use Rattle.std.proofs.Common.{◌≡◌, true, List, All, sym, subst}
 use Rattle.tsc_net.specs.Order.{has_place}
 use Rattle.tsc_net.specs.declared.netlist.LatchView.{LatchView}
 use Rattle.fault_sim.proofs.ShownLemmas.{latches_are_watched}
-use Rattle.fault_sim.proofs.shown.next_state.Goals as goal
+use Rattle.fault_sim.proofs.shown.state_number.Goals as goal
 
 pub state_at-requires-clause-watched : goal.state_at-requires-clause-watched
 state_at-requires-clause-watched c =
