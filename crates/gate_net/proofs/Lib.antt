@@ -1,5 +1,6 @@
 pub mod Signals
 pub mod SameGate
+pub mod Chained
 pub mod Kept
 pub mod Once
 pub mod Negated

@@ -1,25 +1,30 @@
 //! Gates in the order in which they came, each of them once.
-ghost use Rattle.std.specs.Prelude.{◌≡◌, [], length, Some, IfOk, OnOk, OnErr, slice_get};
+ghost use Rattle.std.specs.Prelude.{◌≡◌, ◌+◌, ◌^◌, ◌<◌, [], length, Some, IfOk, OnOk, OnErr, slice_get};
 ghost use Rattle.gate_net.specs.Gates.{gates_with};
 
+use crate::chains::Chains;
 use crate::gate::Gate;
-use indexmap::IndexSet;
 use std::alloc::{AllocError, Global};
 use std::marker::Model;
 
 /// Gates, no two of them equal.
 #[derive(Drop)]
 pub struct GateSet {
-    gates: IndexSet<Gate>,
+    alloc: Global,
+    gates: Vec<Gate>,
+    chains: Chains,
 }
 
 impl Model for GateSet {
     ghost use Rattle.std.specs.Prelude.{List};
     ghost use Rattle.gate_net.specs.declared.gate.Gate.{Gate};
+    ghost use Rattle.gate_net.specs.Chains.{hash_of, AreChained};
 
     ghost Value = { List Gate };
 
-    ghost view = { λ set. set.gates.keys };
+    ghost view = { λ set. set.gates.items };
+
+    ghost invariant = { λ set. AreChained (hash_of set.chains.hasher) set.gates.items set.chains.heads.items set.chains.next.items };
 }
 
 impl GateSet {
@@ -28,18 +33,26 @@ impl GateSet {
         ensures empty { result ≡ [] }
     {
         GateSet {
-            gates: IndexSet::new(alloc),
+            alloc,
+            gates: Vec::new(alloc),
+            chains: Chains::new(alloc),
         }
     }
 
     /// Puts a gate at the end, where no equal one is there, and answers its place.
-    #[tactic(auto, using(crate::proofs::SameGate::gates_with_alike))]
     pub fn insert(&mut self, gate: Gate) -> Result<usize, AllocError>
+        requires room { length self.old + 1 < 2 ^ 32 }
         ensures once { OnOk result (self.new ≡ gates_with self.old gate) }
         ensures stored { IfOk result (λ place. slice_get self.new place ≡ Some gate) }
         ensures refused { OnErr result (self.new ≡ self.old) }
     {
-        let (place, _) = self.gates.insert_full(gate)?;
+        self.chains.reserve(self.alloc, &self.gates)?;
+        if let Some(place) = self.chains.find(&self.gates, gate) {
+            return Ok(place);
+        }
+        let place = self.gates.len();
+        self.gates.push(gate)?;
+        self.chains.push(gate, place);
         Ok(place)
     }
 
@@ -54,6 +67,6 @@ impl GateSet {
     pub fn as_slice(&self) -> &[Gate]
         ensures whole { result.now ≡ self.now }
     {
-        self.gates.as_slice()
+        &self.gates
     }
 }
