@@ -1,6 +1,6 @@
 pub mod Signal
 pub mod Gates
-pub mod Chains
+pub mod Places
 pub mod Growth
 pub mod Size
 pub mod Negations

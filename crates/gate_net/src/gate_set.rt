@@ -2,29 +2,28 @@
 ghost use Rattle.std.specs.Prelude.{◌≡◌, ◌+◌, ◌^◌, ◌<◌, [], length, Some, IfOk, OnOk, OnErr, slice_get};
 ghost use Rattle.gate_net.specs.Gates.{gates_with};
 
-use crate::chains::Chains;
 use crate::gate::Gate;
 use std::alloc::{AllocError, Global};
+use std::collections::HashMap;
 use std::marker::Model;
 
 /// Gates, no two of them equal.
 #[derive(Drop)]
 pub struct GateSet {
-    alloc: Global,
     gates: Vec<Gate>,
-    chains: Chains,
+    places: HashMap<Gate, u32>,
 }
 
 impl Model for GateSet {
     ghost use Rattle.std.specs.Prelude.{List};
     ghost use Rattle.gate_net.specs.declared.gate.Gate.{Gate};
-    ghost use Rattle.gate_net.specs.Chains.{hash_of, AreChained};
+    ghost use Rattle.gate_net.specs.Places.{ArePlaces};
 
     ghost Value = { List Gate };
 
     ghost view = { λ set. set.gates.items };
 
-    ghost invariant = { λ set. AreChained (hash_of set.chains.hasher) set.gates.items set.chains.heads.items set.chains.next.items };
+    ghost invariant = { λ set. ArePlaces set.gates.items set.places };
 }
 
 impl GateSet {
@@ -33,9 +32,8 @@ impl GateSet {
         ensures empty { result ≡ [] }
     {
         GateSet {
-            alloc,
             gates: Vec::new(alloc),
-            chains: Chains::new(alloc),
+            places: HashMap::new(alloc),
         }
     }
 
@@ -46,13 +44,15 @@ impl GateSet {
         ensures stored { IfOk result (λ place. slice_get self.new place ≡ Some gate) }
         ensures refused { OnErr result (self.new ≡ self.old) }
     {
-        self.chains.reserve(self.alloc, &self.gates)?;
-        if let Some(place) = self.chains.find(&self.gates, gate) {
-            return Ok(place);
+        if let Some(place) = self.places.get(&gate) {
+            return Ok(*place as usize);
         }
         let place = self.gates.len();
         self.gates.push(gate)?;
-        self.chains.push(gate, place);
+        if let Err(error) = self.places.insert(gate, place as u32) {
+            self.gates.pop();
+            return Err(error.into());
+        }
         Ok(place)
     }
 

@@ -5,7 +5,6 @@
 //! Definitions: specs/Signal.antt (signals, their values), Gates.antt (lines), Growth.antt, Negations.antt, Realised.antt (gates that stand in a netlist), Written.antt (by names).
 #![tactic(auto)]
 
-mod chains;
 mod covers;
 mod gate;
 mod gate_covers;
