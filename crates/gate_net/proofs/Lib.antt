@@ -1,5 +1,6 @@
 pub mod Signals
 pub mod SameGate
+pub mod Placed
 pub mod Kept
 pub mod Once
 pub mod Negated

@@ -1,5 +1,6 @@
 pub mod Signal
 pub mod Gates
+pub mod Places
 pub mod Growth
 pub mod Size
 pub mod Negations
