@@ -7,8 +7,8 @@ use Rattle.tsc_text.specs.Bytes.{bad_line}
 use Rattle.tsc_text.specs.Lines.{lines_of}
 use Rattle.tsc_text.specs.TextLine.{TextLine, the_line}
 use Rattle.blif_read.specs.declared.kinds.Kind.TheVariants.{Netlist}
-use Rattle.refusals.specs.declared.refusal.Refusal.{Refusal}
-use Rattle.refusals.specs.declared.refusal.Refusal.TheVariants.{AfterTheEnd}
+use Rattle.refusals.specs.declared.text_refusal.TextRefusal.{TextRefusal}
+use Rattle.refusals.specs.declared.text_refusal.TextRefusal.TheVariants.{AfterTheEnd}
 use Rattle.commands.specs.declared.sim_words.SimFault.TheVariants.{NoFault}
 use Rattle.answer_laws.specs.AnswerLaws.{AnswersAreRead, IsNoSynthesis, IsNoSynthesisOf, IsReadByAll, LooseAnswersAreRead, MachineAnswersAreRead, late_answer, two_states, undriven_answer, wide_answer}
 use Rattle.text_sections.specs.Denoted.{first_net, first_section, lines_behind, netlist_in, plan_in}
@@ -17,7 +17,7 @@ use Rattle.netlist_answers.specs.Refused.{has_too_many_points, points_refusal, r
 use Rattle.sim_text.specs.StepLines.{first_misshapen}
 use Rattle.text_sections.proofs.SectionLemmas.{allowed_both, none_first, none_later}
 
-pub some_left : (b : Bool) (refusal : Refusal) → b ≡ true → (if b then Some refusal else None) ≡ None → ⊥
+pub some_left : (b : Bool) (refusal : TextRefusal) → b ≡ true → (if b then Some refusal else None) ≡ None → ⊥
 some_left true refusal is e = cc
 some_left false refusal is e = cc
 

@@ -24,7 +24,7 @@ use Rattle.kiss_read.specs.TableText.{machine_text}
 use Rattle.pla_read.specs.Loose.{free_text}
 use Rattle.pla_read.specs.Networks.{value_text}
 use Rattle.pla_read.specs.Refusal.{refusal as table_refusal}
-use Rattle.refusals.specs.declared.refusal.Refusal.TheVariants.{AfterTheEnd}
+use Rattle.refusals.specs.declared.text_refusal.TextRefusal.TheVariants.{AfterTheEnd}
 use Rattle.commands.specs.declared.source_format.SourceFormat.{SourceFormat}
 use Rattle.commands.specs.declared.source_format.SourceFormat.TheVariants.{Blif, Kiss, Pla}
 use Rattle.text_sections.specs.Denoted.{behind_source, first_lines, first_net, first_plan, first_section, lines_from, machine_lines, machine_section, net_from, no_plan, plan_from, section_from, source_of}

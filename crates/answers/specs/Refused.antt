@@ -8,46 +8,50 @@ use Rattle.tsc_synth.specs.CoverBound.{is_too_large}
 use Rattle.tsc_synth.specs.MachineLimits.{has_too_many_states, takes_too_many_covers}
 use Rattle.commands.specs.declared.command.Command.{Command}
 use Rattle.commands.specs.declared.command.Command.TheVariants.{SynthBlif, SynthKiss, SynthPla, Audit, AuditWide, AuditExact, AuditMapped, Faults, Vectors, Sim, Join}
+use Rattle.refusals.specs.declared.limit.Limit.TheVariants.{States, Covers}
+use Rattle.refusals.specs.declared.limit.OwnLimit.{OwnLimit}
+use Rattle.refusals.specs.declared.limit.OwnLimit.TheVariants.{Rows, Pins}
 use Rattle.refusals.specs.declared.refusal.Refusal.{Refusal}
-use Rattle.refusals.specs.declared.refusal.Refusal.TheVariants.{TooManyStates, TooLarge, TooManyPins, RowsSpent}
+use Rattle.refusals.specs.declared.text_refusal.TextRefusal.{TextRefusal}
+use Rattle.refusals.specs.declared.text_refusal.TextRefusal.TheVariants.{TooMany}
 use Rattle.text_sections.specs.Denoted.{machine_in, netlist_in, values_in}
 use Rattle.commands.specs.Words.{code_of}
-use Rattle.text_sections.specs.Refused.{IsRefusedBy, first_of, machine_text_refusal, pla_text_refusal, text_refusal}
+use Rattle.text_sections.specs.Refused.{StopsBeyond, first_of, machine_text_refusal, pla_text_refusal, text_refusal}
 use Rattle.netlist_answers.specs.Refused.{audit_refusal, sim_refusal, vectors_refusal}
 use Rattle.joint_answers.specs.JointParts.{join_refusal}
-use Rattle.wide_answers.specs.WideReply.{NeedsMoreRows, StopsWide}
+use Rattle.wide_answers.specs.WideReply.{NeedsMoreRows}
 use Rattle.wide_answers.specs.WideSections.{wide_refusal}
-use Rattle.mapping_answers.specs.MappedReply.{HasWideCover, StopsMapped}
+use Rattle.mapping_answers.specs.MappedReply.{HasWideCover}
 use Rattle.mapping_answers.specs.MappedSections.{mapped_in, mapped_refusal}
 
 -- a source whose netlist would have too many covers
-abbrev pub size_refusal : Bool → Option Refusal
-size_refusal true = Some TooLarge
+abbrev pub size_refusal : Bool → Option TextRefusal
+size_refusal true = Some (TooMany Covers)
 size_refusal false = None
 
 -- a source for a netlist by a way: its text, then the bound on the covers of the netlist
-abbrev pub synth_refusal : Way → List ℕ → Option Refusal
+abbrev pub synth_refusal : Way → List ℕ → Option TextRefusal
 synth_refusal way text = first_of (text_refusal Source text) (size_refusal (is_too_large way (netlist_in text).circuit))
 
 -- a machine with more states than there are state words
-abbrev pub states_refusal : Bool → Option Refusal
-states_refusal true = Some TooManyStates
+abbrev pub states_refusal : Bool → Option TextRefusal
+states_refusal true = Some (TooMany States)
 states_refusal false = None
 
 -- a machine whose netlist would pass a limit: its states, then the bound on the covers of the netlist
-abbrev pub limits_refusal : Code → StateTable → Option Refusal
+abbrev pub limits_refusal : Code → StateTable → Option TextRefusal
 limits_refusal code M = first_of (states_refusal (has_too_many_states M)) (size_refusal (takes_too_many_covers code M))
 
 -- a machine for a netlist under a code: its text, then the limits of the netlist
-abbrev pub synth_machine_refusal : Code → List ℕ → Option Refusal
+abbrev pub synth_machine_refusal : Code → List ℕ → Option TextRefusal
 synth_machine_refusal code text = first_of (machine_text_refusal text) (limits_refusal code (machine_in text))
 
 -- a table for a netlist by a way: its text, then the bound on the covers of the netlist of its values
-abbrev pub synth_loose_refusal : Way → List ℕ → Option Refusal
+abbrev pub synth_loose_refusal : Way → List ℕ → Option TextRefusal
 synth_loose_refusal way text = first_of (pla_text_refusal text) (size_refusal (is_too_large way (values_in text).circuit))
 
 -- the first refusal of a text by a command
-abbrev pub refusal_of : Command → List ℕ → Option Refusal
+abbrev pub refusal_of : Command → List ℕ → Option TextRefusal
 refusal_of (SynthBlif way) text = synth_refusal way text
 refusal_of (SynthKiss code) text = synth_machine_refusal (code_of code) text
 refusal_of (SynthPla way) text = synth_loose_refusal way text
@@ -61,9 +65,9 @@ refusal_of (Sim fault) text = sim_refusal fault text
 refusal_of Join text = join_refusal text
 
 -- the limit of a command that no refusal of the text is: rows of decision diagrams, and the pins of a cover that is tried
-abbrev pub own_limit : Command → Option Refusal
-own_limit (AuditWide rows) = Some (RowsSpent rows)
-own_limit AuditMapped = Some TooManyPins
+abbrev pub own_limit : Command → Option OwnLimit
+own_limit (AuditWide rows) = Some (Rows rows)
+own_limit AuditMapped = Some Pins
 own_limit _ = None
 
 -- a text that nothing refuses passes the limit of the command: it needs more rows, or a cover is too wide to be tried
@@ -72,8 +76,6 @@ PassesLimit (AuditWide rows) text = NeedsMoreRows rows text
 PassesLimit AuditMapped text = HasWideCover (netlist_in text) (mapped_in text)
 PassesLimit _ text = ⊥
 
--- why a command stops at a text: a limit of its own, or what refuses the text
+-- why a command stops at a text: what refuses the text, or its own limit
 abbrev pub StopsAt : Command → List ℕ → Refusal → Type 0
-StopsAt (AuditWide rows) text refusal = StopsWide rows text refusal
-StopsAt AuditMapped text refusal = StopsMapped text refusal
-StopsAt command text refusal = IsRefusedBy (refusal_of command text) refusal
+StopsAt command text refusal = StopsBeyond (own_limit command) (refusal_of command text) (PassesLimit command text) refusal

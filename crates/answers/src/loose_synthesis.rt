@@ -15,7 +15,7 @@ ghost use Rattle.text_sections.specs.Denoted.{frees_in, table_in, values_in};
 ghost use Rattle.text_sections.specs.Refused.{IsRefusedBy};
 
 use crate::network_synthesis::written_text;
-use refusals::Refusal;
+use refusals::{Limit, Refusal, TextRefusal};
 use std::alloc::Global;
 use structure_laws::{cell_secure_is_fault_secure, sound_is_cell_secure};
 use synth_ways::Way;
@@ -76,7 +76,7 @@ fn loose_synthesis_of(alloc: Global, way: Way, source: &Loose) -> Result<Planned
     match synth_loose(alloc, source, way) {
         Ok(made) => Ok(made),
         Err(SynthError::TooManyStates) => unreachable!(),
-        Err(SynthError::TooLarge) => Err(Refusal::TooLarge),
+        Err(SynthError::TooLarge) => Err(Refusal::Text(TextRefusal::TooMany(Limit::Covers))),
         Err(SynthError::Memory(error)) => Err(Refusal::Memory(error)),
     }
 }

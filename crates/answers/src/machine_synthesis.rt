@@ -15,7 +15,7 @@ ghost use Rattle.commands.specs.Words.{code_of};
 use crate::network_synthesis::written_text;
 use commands::MachineCode;
 use kiss_read::KissText;
-use refusals::Refusal;
+use refusals::{Limit, Refusal, TextRefusal};
 use std::alloc::Global;
 use structure_laws::{cell_secure_is_fault_secure, sound_is_cell_secure};
 use text_sections::{machine_alone, text_lines};
@@ -92,8 +92,8 @@ pub fn machine_synthesis_of(
         code.code(),
     ) {
         Ok(made) => Ok(made),
-        Err(SynthError::TooManyStates) => Err(Refusal::TooManyStates),
-        Err(SynthError::TooLarge) => Err(Refusal::TooLarge),
+        Err(SynthError::TooManyStates) => Err(Refusal::Text(TextRefusal::TooMany(Limit::States))),
+        Err(SynthError::TooLarge) => Err(Refusal::Text(TextRefusal::TooMany(Limit::Covers))),
         Err(SynthError::Memory(error)) => Err(Refusal::Memory(error)),
     }
 }

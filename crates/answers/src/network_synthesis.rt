@@ -12,7 +12,7 @@ ghost use Rattle.text_sections.specs.Refused.{IsRefusedBy};
 ghost use Rattle.answers.specs.Refused.{size_refusal, synth_refusal};
 
 use blif_write::write_blif;
-use refusals::Refusal;
+use refusals::{Limit, Refusal, TextRefusal};
 use std::alloc::{AllocError, Global};
 use structure_laws::{cell_secure_is_fault_secure, sound_is_cell_secure};
 use synth_ways::Way;
@@ -83,7 +83,7 @@ fn network_synthesis_of(
             Ok(made)
         }
         Err(SynthError::TooManyStates) => unreachable!(),
-        Err(SynthError::TooLarge) => Err(Refusal::TooLarge),
+        Err(SynthError::TooLarge) => Err(Refusal::Text(TextRefusal::TooMany(Limit::Covers))),
         Err(SynthError::Memory(error)) => Err(Refusal::Memory(error)),
     }
 }

@@ -18,7 +18,7 @@ use exact_audit::{AuditError, ExactVerdict, exact_audit};
 use netlist_answers::{
     AuditSource, Reply, audit_source, behind_source, meaning_of, netlist_behind,
 };
-use refusals::{Ending, Refusal};
+use refusals::{Ending, Limit, Refusal, TextRefusal};
 use std::alloc::{AllocError, Global};
 use text_sections::text_lines;
 use tsc_io::Bytes;
@@ -103,7 +103,9 @@ fn exact_on(
 {
     match exact_audit(alloc, &meaning_of(source), &read.net, &read.plan) {
         Ok(verdict) => Ok(verdict),
-        Err(AuditError::TooManyPoints) => Err(Refusal::TooManyAuditPoints),
+        Err(AuditError::TooManyPoints) => Err(Refusal::Text(TextRefusal::TooMany(
+            Limit::AuditPoints,
+        ))),
         Err(AuditError::Memory(error)) => Err(Refusal::Memory(error)),
     }
 }

@@ -13,7 +13,7 @@ use joint_text::{
     Joint, join, joint_texts_are_cell_secure, joint_texts_are_fault_secure, joint_texts_are_told,
 };
 use module_join::JoinError;
-use refusals::Refusal;
+use refusals::{Limit, Refusal, TextRefusal};
 use std::alloc::Global;
 use text_sections::{planned_parts, text_lines};
 use tsc_io::{Bytes, Items, TextKey};
@@ -68,8 +68,10 @@ fn joint_of_parts(
 {
     match join(alloc, key, parts) {
         Ok(joint) => Ok(joint),
-        Err(JoinError::TooManyInputs) => Err(Refusal::TooManyJointInputs),
-        Err(JoinError::TooManyNodes) => Err(Refusal::TooLarge),
+        Err(JoinError::TooManyInputs) => Err(Refusal::Text(TextRefusal::TooMany(
+            Limit::JointInputs,
+        ))),
+        Err(JoinError::TooManyNodes) => Err(Refusal::Text(TextRefusal::TooMany(Limit::Covers))),
         Err(JoinError::Memory(error)) => Err(Refusal::Memory(error)),
     }
 }

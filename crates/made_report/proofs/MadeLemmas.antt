@@ -27,6 +27,7 @@ use Rattle.machine_synth.proofs.Bounds.{check_is, weight_is}
 use Rattle.machine_synth.proofs.MachineJoin.{state_count}
 use Rattle.tsc_synth.specs.MachineLimits.{has_too_many_states, takes_too_many_covers}
 use Rattle.refusals.specs.declared.refusal.Refusal.{Refusal}
+use Rattle.refusals.specs.declared.text_refusal.TextRefusal.{TextRefusal}
 use Rattle.text_sections.specs.Denoted.{machine_in, machine_lines}
 use Rattle.made_report.specs.Made.{figures_of, machine_limits_refusal, make_refusal, report_of}
 use Rattle.text_sections.specs.Refused.{IsRefusedBy, behind_machine, byte_refusal, first_of, machine_lines_refusal, machine_refusal}
@@ -218,5 +219,5 @@ pub few_nets : (M : StateTable) (inputs outputs : List (List ℕ)) (N : NetlistO
 few_nets M inputs outputs N P is few latches nodes = let count = is.given.count in omega (arith, few, latches, nodes, count)
 
 -- where nothing is refused, only memory may be missing
-pub only_memory : (refusal : Option Refusal) (given : Refusal) → refusal ≡ None → IsRefusedBy refusal given → IsRefusedBy None given
-only_memory refusal given none refused = let P : Option Refusal → Type 0 = λ r. IsRefusedBy r given in subst P none refused
+pub only_memory : (refusal : Option TextRefusal) (given : Refusal) → refusal ≡ None → IsRefusedBy refusal given → IsRefusedBy None given
+only_memory refusal given none refused = let P : Option TextRefusal → Type 0 = λ r. IsRefusedBy r given in subst P none refused

@@ -7,7 +7,7 @@ use Rattle.machine_maker.specs.MadeText.{made_text}
 use Rattle.machine_maker.specs.Summary.{summary_text}
 use Rattle.machine_maker.specs.declared.summary.Figures.{Figures}
 use Rattle.machine_synth.specs.MachineBound.{check_count, machine_bound, state_weight}
-use Rattle.refusals.specs.declared.refusal.Refusal.{Refusal}
+use Rattle.refusals.specs.declared.text_refusal.TextRefusal.{TextRefusal}
 use Rattle.text_sections.specs.Denoted.{machine_in}
 use Rattle.text_sections.specs.Refused.{first_of}
 use Rattle.netlist_answers.specs.Refused.{audit_points_refusal, has_too_many_audit_points}
@@ -42,9 +42,9 @@ abbrev pub made_report : ℕ → List ℕ
 made_report number = report_of number (made_machine number)
 
 -- what a machine is refused for: the limits of its netlist, then the number of its points
-abbrev pub machine_limits_refusal : StateTable → Option Refusal
+abbrev pub machine_limits_refusal : StateTable → Option TextRefusal
 machine_limits_refusal M = first_of (limits_refusal Berger M) (audit_points_refusal (has_too_many_audit_points (States M)))
 
 -- what the text of a machine is refused for: as `synth kiss berger` refuses it, then for the number of its points
-abbrev pub make_refusal : List ℕ → Option Refusal
+abbrev pub make_refusal : List ℕ → Option TextRefusal
 make_refusal text = first_of (synth_machine_refusal Berger text) (audit_points_refusal (has_too_many_audit_points (States (machine_in text))))

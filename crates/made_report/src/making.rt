@@ -20,7 +20,7 @@ use commands::MachineCode;
 use kiss_read::KissText;
 use machine_maker::{Figures, counts_of, made_texts_are_machines, make_text, summary_text};
 use netlist_answers::verdict_text;
-use refusals::Refusal;
+use refusals::{Limit, Refusal, TextRefusal};
 use std::alloc::{AllocError, Global};
 use text_sections::{machine_alone, text_lines};
 use tsc_io::{Bytes, TextKey};
@@ -88,7 +88,9 @@ fn verdict_on(
     let meaning = SourceMeaning::Machine(&source.machine);
     match audit(alloc, &meaning, net, plan) {
         Ok(verdict) => Ok(verdict),
-        Err(AuditError::TooManyPoints) => Err(Refusal::TooManyAuditPoints),
+        Err(AuditError::TooManyPoints) => Err(Refusal::Text(TextRefusal::TooMany(
+            Limit::AuditPoints,
+        ))),
         Err(AuditError::Memory(error)) => Err(Refusal::Memory(error)),
     }
 }

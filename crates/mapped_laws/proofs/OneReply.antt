@@ -20,7 +20,7 @@ use Rattle.mapping_audit.specs.declared.answer.MappedAnswer.TheVariants.{Yes, No
 use Rattle.mapping_audit.proofs.Determined.{one_answer}
 use Rattle.refusals.specs.declared.ending.Ending.{Ending}
 use Rattle.refusals.specs.declared.ending.Ending.TheVariants.{Finished, Rejected}
-use Rattle.refusals.specs.declared.refusal.Refusal.TheVariants.{NoNetlist}
+use Rattle.refusals.specs.declared.text_refusal.TextRefusal.TheVariants.{NoNetlist}
 use Rattle.text_sections.specs.Denoted.{first_lines, first_section, lines_from, netlist_in, no_plan, plan_in}
 use Rattle.text_sections.specs.Refused.{behind_refusal, byte_refusal, first_refusal, last_refusal}
 use Rattle.text_sections.proofs.SectionLemmas.{first_allowed, none_first, none_later, section_allowed}
@@ -113,7 +113,7 @@ mapped_replies_are_determined text allowed =
     let second = mapped_is_built text allowed in
     record {
       one = one_reply N G first second;
-      no_limit = λ ending answer reply passes. no_limit N G first second ending answer reply passes.wide;
+      no_limit = no_limit N G first second;
     }
 
 -- ---- plan lines of the text

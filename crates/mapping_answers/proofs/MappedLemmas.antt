@@ -1,5 +1,5 @@
 -- A text of two netlists: what is refused of it, what stops an answer, and the answer.
-use Rattle.std.proofs.Common.{◌≡◌, ℕ, List, Option, None, Result, IfOk, refl, sym, ap, subst, inl, inr}
+use Rattle.std.proofs.Common.{◌≡◌, ℕ, List, None, Result, IfOk, refl, sym, ap, subst}
 use Rattle.fault_secure.specs.Settle.{Acyclic}
 use Rattle.tsc_text.specs.Bytes.{bad_line}
 use Rattle.tsc_text.specs.Lines.{lines_of}
@@ -9,11 +9,13 @@ use Rattle.blif_read.specs.declared.kinds.Kind.TheVariants.{Netlist, Unplanned}
 use Rattle.mapping_audit.specs.MappedAnswer.{IsMappedAnswer, IsSecureWhereYes}
 use Rattle.mapping_audit.specs.declared.answer.MappedAnswer.TheVariants.{Yes}
 use Rattle.refusals.specs.declared.ending.Ending.TheVariants.{Finished}
+use Rattle.refusals.specs.declared.limit.OwnLimit.TheVariants.{Pins}
 use Rattle.refusals.specs.declared.refusal.Refusal.{Refusal}
 use Rattle.netlist_answers.specs.declared.reply.Reply.{Reply}
 use Rattle.text_sections.specs.Denoted.{first_section, netlist_in}
 use Rattle.text_sections.specs.Refused.{IsRefusedBy, behind_refusal, byte_refusal, first_of, first_refusal}
 use Rattle.text_sections.proofs.SectionLemmas.{allowed_both, refused_later}
+use Rattle.text_sections.proofs.StopLemmas.{stops_there}
 use Rattle.mapping_answers.specs.MappedSections.{mapped_in, mapped_lines_refusal, mapped_refusal}
 use Rattle.mapping_answers.specs.MappedText.{yes_text}
 use Rattle.mapping_answers.specs.MappedReply.{IsReplyOn, HasWideCover, IsMappedReply, IsMappingOf, StopsMapped, StopsPair}
@@ -75,5 +77,5 @@ module _ (text : List ℕ) (N G : NetlistOf) (plain : N ≡ netlist_in text) (ma
       subst B mapped (subst A plain wide)
 
   pub stopped : (given : Refusal) → mapped_refusal text ≡ None → StopsPair N G given → StopsMapped text given
-  stopped given allowed (inl refused) = let P : Option Refusal → Type 0 = λ r. IsRefusedBy r given in inl (subst P (sym allowed) refused)
-  stopped given allowed (inr limit) = inr (limit.0, record { allowed = allowed; wide = wide_there limit.1 })
+  stopped given allowed stops =
+      stops_there Pins (mapped_refusal text) (HasWideCover N G) (HasWideCover (netlist_in text) (mapped_in text)) given allowed wide_there stops

@@ -1,5 +1,5 @@
 -- What is answered to a text of a netlist and a mapped one.
-use Rattle.std.specs.Prelude.{◌≡◌, ◌⊎◌, ℕ, List, slice_index, None}
+use Rattle.std.specs.Prelude.{◌≡◌, ℕ, List, slice_index, None, Some}
 use Rattle.fault_secure.specs.Settle.{Acyclic}
 use Rattle.tsc_net.specs.NetlistOf.{NetlistOf}
 use Rattle.mapping_reading.specs.ReadMapping.{some_block}
@@ -9,10 +9,10 @@ use Rattle.mapping_audit.specs.declared.reason.MappedReason.{MappedReason}
 use Rattle.mapping_audit.specs.declared.answer.MappedAnswer.TheVariants.{No, Wide}
 use Rattle.refusals.specs.declared.ending.Ending.{Ending}
 use Rattle.refusals.specs.declared.ending.Ending.TheVariants.{Finished, Rejected}
+use Rattle.refusals.specs.declared.limit.OwnLimit.TheVariants.{Pins}
 use Rattle.refusals.specs.declared.refusal.Refusal.{Refusal}
-use Rattle.refusals.specs.declared.refusal.Refusal.TheVariants.{TooManyPins}
 use Rattle.text_sections.specs.Denoted.{netlist_in}
-use Rattle.text_sections.specs.Refused.{IsRefusedBy}
+use Rattle.text_sections.specs.Refused.{StopsBeyond}
 use Rattle.mapping_answers.specs.MappedSections.{mapped_in, mapped_refusal}
 use Rattle.mapping_answers.specs.MappedText.{no_text, yes_text}
 
@@ -50,13 +50,8 @@ HasWideCover N G = (node : ℕ) × IsMappedAnswer N G (Wide node)
 
 -- why two netlists have no answer: want of memory, or that limit
 abbrev pub StopsPair : NetlistOf → NetlistOf → Refusal → Type 0
-StopsPair N G refusal = IsRefusedBy None refusal ⊎ ((refusal ≡ TooManyPins) × HasWideCover N G)
-
--- nothing refuses the text, but it passes the limit on pins
-pub record PassesPins (text : List ℕ) : Type 0 where
-  pub allowed : mapped_refusal text ≡ None
-  pub wide : HasWideCover (netlist_in text) (mapped_in text)
+StopsPair N G refusal = StopsBeyond (Some Pins) None (HasWideCover N G) refusal
 
 -- why there is no answer to a text: what refuses it, or the limit on pins
 abbrev pub StopsMapped : List ℕ → Refusal → Type 0
-StopsMapped text refusal = IsRefusedBy (mapped_refusal text) refusal ⊎ ((refusal ≡ TooManyPins) × PassesPins text)
+StopsMapped text refusal = StopsBeyond (Some Pins) (mapped_refusal text) (HasWideCover (netlist_in text) (mapped_in text)) refusal

@@ -9,7 +9,7 @@ use crate::mapped_line::{no_text, yes_text};
 use crate::pair::netlist_pair;
 use mapping_audit::{MappedAnswer, mapped_answer};
 use netlist_answers::{Reply, finished};
-use refusals::{Ending, Refusal};
+use refusals::{Ending, OwnLimit, Refusal};
 use std::alloc::Global;
 use tsc_io::Bytes;
 use tsc_net::Netlist;
@@ -71,6 +71,6 @@ fn reply_with(
             }),
             Err(error) => Err(Refusal::Memory(error)),
         },
-        MappedAnswer::Wide { .. } => Err(Refusal::TooManyPins),
+        MappedAnswer::Wide { .. } => Err(Refusal::Beyond(OwnLimit::Pins)),
     }
 }

@@ -1,23 +1,23 @@
 -- A text that is simulated: what is refused of it, and its answer.
-use Rattle.std.proofs.Common.{◌≡◌, ℕ, List, drop, Option, None, Some, Result, Ok, Err, refl, sym, ◌∙◌, ap, subst}
+use Rattle.std.proofs.Common.{◌≡◌, ℕ, List, drop, Option, None, Result, Ok, Err, refl, sym, ◌∙◌, ap, subst}
 use Rattle.tsc_text.specs.Bytes.{bad_line}
 use Rattle.tsc_text.specs.Lines.{lines_of}
 use Rattle.tsc_text.specs.TextLine.{TextLine}
 use Rattle.tsc_text.specs.declared.section.Section.{Section}
 use Rattle.fault_secure.specs.CodePlan.{CodePlan}
 use Rattle.tsc_net.specs.NetlistOf.{NetlistOf}
-use Rattle.blif_read.specs.Denotes.{DenotesNetlist, refusal}
-use Rattle.blif_read.specs.declared.error.BlifError.{BlifError}
+use Rattle.blif_read.specs.Denotes.{DenotesNetlist}
 use Rattle.blif_read.specs.declared.kinds.Kind.TheVariants.{Netlist}
 use Rattle.buffered_sink.specs.Output.{Output}
 use Rattle.refusals.specs.declared.refusal.Refusal.{Refusal}
+use Rattle.refusals.specs.declared.text_refusal.TextRefusal.{TextRefusal}
 use Rattle.refusals.specs.declared.refusal.Refusal.TheVariants.{WriteFault}
 use Rattle.netlist_answers.specs.SimEnds.{EndsWith, RunEnds, SimulationEnds, TextEnds}
 use Rattle.commands.specs.declared.sim_words.SimFault.{SimFault}
 use Rattle.netlist_answers.specs.Answers.{IsSimulation}
-use Rattle.text_sections.specs.Refused.{IsRefusedBy, byte_refusal, first_of, first_refusal, section_refusal}
+use Rattle.text_sections.specs.Refused.{IsRefusedBy, byte_refusal, first_of, first_refusal}
 use Rattle.netlist_answers.specs.Refused.{run_refusal, sim_lines_refusal, sim_refusal}
-use Rattle.text_sections.specs.Denoted.{first_lines, first_net, first_section, lines_behind, lines_from}
+use Rattle.text_sections.specs.Denoted.{first_lines, first_net, first_section, lines_behind}
 use Rattle.netlist_answers.specs.Simulated.{IsRunOf}
 use Rattle.text_sections.proofs.SectionLemmas.{allowed_both, refused_first, refused_later}
 use Rattle.text_sections.proofs.DenotedLemmas.{plan_denoted}
@@ -51,7 +51,7 @@ simulation-of fault text lines bytes are made = let P : List TextLine → Type 0
 
 -- ---- how a simulation ends, seen of the netlist, of the lines and of the text
 
-module _ (A B : List ℕ → Type 0) (r q : Option Refusal) (before after : Output) (answers : (answer : List ℕ) → A answer → B answer) (allowed : r ≡ None → q ≡ None)
+module _ (A B : List ℕ → Type 0) (r q : Option TextRefusal) (before after : Output) (answers : (answer : List ℕ) → A answer → B answer) (allowed : r ≡ None → q ≡ None)
     (refused : (given : Refusal) → IsRefusedBy r given → IsRefusedBy q given) where
   ends_with : {T : Type 0} (result : Result T Refusal) → EndsWith A r result before after → EndsWith B q result before after
   ends_with (Ok done) ends = (ends.0, answers ends.0 ends.1, allowed ends.2, ends.3)
@@ -67,11 +67,11 @@ module _ (fault : SimFault) (lines : List TextLine) (net : NetlistOf) (section :
   pub lines_end : {T : Type 0} (plan : CodePlan) (result : Result T Refusal) (before after : Output) → first_refusal Netlist lines ≡ None
       → DenotesNetlist (first_lines lines) net plan → RunEnds fault net plan (drop section.next lines) result before after → SimulationEnds fault lines result before after
   lines_end plan result before after sound denoted ends =
-      let r : Option Refusal = run_refusal fault net (drop section.next lines) in
-      let first : Option Refusal = first_refusal Netlist lines in
-      let later : Option Refusal = run_refusal fault (first_net lines) (lines_behind lines) in
+      let r : Option TextRefusal = run_refusal fault net (drop section.next lines) in
+      let first : Option TextRefusal = first_refusal Netlist lines in
+      let later : Option TextRefusal = run_refusal fault (first_net lines) (lines_behind lines) in
       let refused : (given : Refusal) → IsRefusedBy r given → IsRefusedBy (sim_lines_refusal fault lines) given =
-      λ given p. let P : Option Refusal → Type 0 = λ o. IsRefusedBy o given in refused_later first later given sound (subst P behind p) in
+      λ given p. let P : Option TextRefusal → Type 0 = λ o. IsRefusedBy o given in refused_later first later given sound (subst P behind p) in
       ends_with (IsRunOf fault net plan (drop section.next lines)) (IsSimulation fault lines) r (sim_lines_refusal fault lines) before after
       (λ bytes run. simulation fault lines net section is at plan bytes denoted run) (λ none. allowed_both first later sound (sym behind ∙ none)) refused result ends
 
@@ -85,28 +85,18 @@ text_ends fault text lines result before after are sound ends =
 
 -- ---- what refuses a text is no failed write, so that a refused simulation ends with nothing printed
 
-never_for_byte : (line : Option ℕ) → byte_refusal line ≡ Some WriteFault → ⊥
-never_for_byte None e = cc
-never_for_byte (Some line) e = cc
-
-never_for_section : (error : Option BlifError) → section_refusal Netlist error ≡ Some WriteFault → ⊥
-never_for_section None e = cc
-never_for_section (Some error) e = cc
-
-module _ (A : List ℕ → Type 0) (first later : Option Refusal) (at : Output) (never : first ≡ Some WriteFault → ⊥) where
+module _ (A : List ℕ → Type 0) (first later : Option TextRefusal) (at : Output) where
   first_ends : (given : Refusal) → IsRefusedBy first given → EndsWith {T = Unit {0}} A (first_of first later) (Err given) at at
-  first_ends WriteFault refused = absurd (never refused)
+  first_ends WriteFault refused = absurd refused
   first_ends given refused = (refused_first first later given refused, refl)
 
 -- its lines, and its bytes
 pub refused_lines_end : (fault : SimFault) (lines : List TextLine) (at : Output) (given : Refusal)
     → IsRefusedBy (first_refusal Netlist lines) given → SimulationEnds {T = Unit {0}} fault lines (Err given) at at
 refused_lines_end fault lines at given refused =
-    first_ends (IsSimulation fault lines) (first_refusal Netlist lines) (run_refusal fault (first_net lines) (lines_behind lines)) at
-    (never_for_section (refusal Netlist (lines_from lines 0))) given refused
+    first_ends (IsSimulation fault lines) (first_refusal Netlist lines) (run_refusal fault (first_net lines) (lines_behind lines)) at given refused
 
 pub refused_text_ends : (fault : SimFault) (text : List ℕ) (at : Output) (given : Refusal)
     → IsRefusedBy (byte_refusal (bad_line text)) given → TextEnds {T = Unit {0}} fault text (Err given) at at
 refused_text_ends fault text at given refused =
-    first_ends (IsSimulation fault (lines_of text)) (byte_refusal (bad_line text)) (sim_lines_refusal fault (lines_of text)) at
-    (never_for_byte (bad_line text)) given refused
+    first_ends (IsSimulation fault (lines_of text)) (byte_refusal (bad_line text)) (sim_lines_refusal fault (lines_of text)) at given refused

@@ -21,6 +21,7 @@ use Rattle.vectors.specs.Vectors.{AreTests}
 use Rattle.lane_sim.specs.declared.point.Point.{Point}
 use Rattle.vectors.proofs.PlaceLemmas.{many_inputs}
 use Rattle.refusals.specs.declared.refusal.Refusal.{Refusal}
+use Rattle.refusals.specs.declared.text_refusal.TextRefusal.{TextRefusal}
 use Rattle.netlist_answers.specs.Answers.{IsVectorList}
 use Rattle.text_sections.specs.Denoted.{first_lines, netlist_in, plan_in}
 use Rattle.text_sections.specs.Refused.{IsRefusedBy, byte_refusal, lines_refusal, text_refusal}
@@ -99,7 +100,7 @@ module _ (text : List ℕ) (net : NetlistOf) (plan : CodePlan) (is : net ≡ net
   pub refused_points : (given : Refusal) → text_refusal Netlist text ≡ None → IsRefusedBy (points_refusal (has_too_many_points net.circuit plan)) given
       → IsRefusedBy (vectors_refusal text) given
   refused_points given allowed refused =
-      let P : Option Refusal → Type 0 = λ r. IsRefusedBy r given in
+      let P : Option TextRefusal → Type 0 = λ r. IsRefusedBy r given in
       refused_later (text_refusal Netlist text) (points_refusal (has_too_many_points (netlist_in text).circuit (plan_in text))) given allowed (subst P same_points refused)
 
   pub allowed_points : text_refusal Netlist text ≡ None → points_refusal (has_too_many_points net.circuit plan) ≡ None → vectors_refusal text ≡ None

@@ -6,6 +6,7 @@ use Rattle.tsc_text.specs.Lines.{lines_of}
 use Rattle.fault_secure.specs.CodePlan.{CodePlan}
 use Rattle.tsc_net.specs.NetlistOf.{NetlistOf}
 use Rattle.refusals.specs.declared.refusal.Refusal.{Refusal}
+use Rattle.refusals.specs.declared.text_refusal.TextRefusal.{TextRefusal}
 use Rattle.refusals.specs.declared.refusal.Refusal.TheVariants.{WriteFault as CannotWrite}
 use Rattle.commands.specs.declared.sim_words.SimFault.{SimFault}
 use Rattle.netlist_answers.specs.Answers.{IsSimulation}
@@ -14,7 +15,7 @@ use Rattle.netlist_answers.specs.Refused.{run_refusal, sim_lines_refusal, sim_re
 use Rattle.netlist_answers.specs.Simulated.{IsRunOf}
 
 -- there is an answer, nothing is refused, and the answer was printed; or the sink failed in it; or this is refused, and nothing was printed
-abbrev pub EndsWith : {T : Type 0} → (List ℕ → Type 0) → Option Refusal → Result T Refusal → Output → Output → Type 0
+abbrev pub EndsWith : {T : Type 0} → (List ℕ → Type 0) → Option TextRefusal → Result T Refusal → Output → Output → Type 0
 EndsWith answers refusal (Ok done) before after = (answer : List ℕ) × answers answer × (refusal ≡ None) × IsPrinted before after answer
 EndsWith answers refusal (Err CannotWrite) before after = (answer : List ℕ) × answers answer × (refusal ≡ None) × IsCut before after answer
 EndsWith answers refusal (Err given) before after = IsRefusedBy refusal given × (after ≡ before)

@@ -19,7 +19,7 @@ use crate::reply::Reply;
 use crate::verdict_line::verdict_text;
 use audit::{AuditError, SourceMeaning, Verdict, audit};
 use commands::SourceFormat;
-use refusals::{Ending, Refusal};
+use refusals::{Ending, Limit, Refusal, TextRefusal};
 use std::alloc::{AllocError, Global};
 use text_sections::{
     behind_first, first_machine, first_source, first_table, last_netlist, text_lines,
@@ -156,7 +156,7 @@ pub fn netlist_behind(alloc: Global, lines: &Lines, from: usize) -> Result<Plann
     ensures refused { IfErr result (IsRefusedBy (netlist_refusal lines.now from)) }
 {
     if from >= lines.len() {
-        return Err(Refusal::NoNetlist);
+        return Err(Refusal::Text(TextRefusal::NoNetlist));
     }
     match last_netlist(alloc, lines, from) {
         Ok(read) => Ok(read),
@@ -182,7 +182,9 @@ fn verdict_on(
 {
     match audit(alloc, &meaning_of(source), &read.net, &read.plan) {
         Ok(verdict) => Ok(verdict),
-        Err(AuditError::TooManyPoints) => Err(Refusal::TooManyAuditPoints),
+        Err(AuditError::TooManyPoints) => Err(Refusal::Text(TextRefusal::TooMany(
+            Limit::AuditPoints,
+        ))),
         Err(AuditError::Memory(error)) => Err(Refusal::Memory(error)),
     }
 }

@@ -14,7 +14,7 @@ ghost use Rattle.netlist_answers.specs.Simulated.{is_place_listed, place_of, ste
 
 use buffered_sink::Page;
 use commands::SimFault;
-use refusals::Refusal;
+use refusals::{Refusal, TextRefusal};
 use sim_text::{RunError, StepLines, simulate};
 use std::alloc::Global;
 use text_sections::{first_netlist, text_lines};
@@ -106,7 +106,7 @@ fn step_lines<'a>(
 {
     match StepLines::of(lines, from, inputs) {
         Ok(steps) => Ok(steps),
-        Err(line) => Err(Refusal::StepShape { line }),
+        Err(line) => Err(Refusal::Text(TextRefusal::StepShape { line })),
     }
 }
 
@@ -128,7 +128,7 @@ fn placed(alloc: Global, fault: SimFault, net: &Netlist) -> Result<PlacedFault, 
             when,
         } => {
             let Some(at) = net.net(name.as_slice()) else {
-                return Err(Refusal::NotListed);
+                return Err(Refusal::Text(TextRefusal::NotListed));
             };
             listed(net, Fault::Stem { net: at, value }, when)
         }
@@ -139,7 +139,7 @@ fn placed(alloc: Global, fault: SimFault, net: &Netlist) -> Result<PlacedFault, 
             when,
         } => {
             let Some(driver) = net.net(name.as_slice()) else {
-                return Err(Refusal::NotListed);
+                return Err(Refusal::Text(TextRefusal::NotListed));
             };
             let index = index as usize;
             listed(
@@ -168,6 +168,6 @@ fn listed(net: &Netlist, fault: Fault, when: When) -> Result<PlacedFault, Refusa
             when,
         })
     } else {
-        Err(Refusal::NotListed)
+        Err(Refusal::Text(TextRefusal::NotListed))
     }
 }

@@ -12,7 +12,7 @@ ghost use Rattle.netlist_answers.specs.Refused.{has_too_many_points, points_refu
 ghost use Rattle.netlist_answers.specs.VectorList.{vector_list};
 
 use crate::printout::TestedNetlist;
-use refusals::Refusal;
+use refusals::{Limit, Refusal, TextRefusal};
 use std::alloc::Global;
 use text_sections::read_netlist;
 use tsc_io::Bytes;
@@ -59,7 +59,7 @@ fn tests_of(alloc: Global, net: &Netlist, plan: &Plan) -> Result<Tests, Refusal>
     let _states = plan.states.len();
     match vectors(alloc, net, plan) {
         Ok(tests) => Ok(tests),
-        Err(VecError::TooManyPoints) => Err(Refusal::TooManyPoints),
+        Err(VecError::TooManyPoints) => Err(Refusal::Text(TextRefusal::TooMany(Limit::Points))),
         Err(VecError::Memory(error)) => Err(Refusal::Memory(error)),
     }
 }

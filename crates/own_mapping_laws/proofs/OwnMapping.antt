@@ -25,7 +25,7 @@ use Rattle.blif_write.proofs.WholeOrder.{whole-acyclic}
 use Rattle.mapping_reading.proofs.NamesMoved.{names_stay_secure}
 use Rattle.commands.specs.declared.command.Command.TheVariants.{AuditMapped}
 use Rattle.refusals.specs.declared.ending.Ending.TheVariants.{Finished, Rejected}
-use Rattle.refusals.specs.declared.refusal.Refusal.TheVariants.{NoNetlist}
+use Rattle.refusals.specs.declared.text_refusal.TextRefusal.TheVariants.{NoNetlist}
 use Rattle.text_sections.specs.Denoted.{first_lines, first_net, first_section, lines_from, net_from, netlist_in, plan_in}
 use Rattle.text_sections.specs.Refused.{behind_refusal, byte_refusal, last_refusal, left_behind, left_over, lines_refusal, refusal_from, section_refusal, text_refusal}
 use Rattle.text_sections.proofs.SectionLemmas.{allowed_both, none_first, none_later, section_allowed}

@@ -9,7 +9,7 @@ use Rattle.blif_read.specs.Denotes.{plan_text, plan_at, refusal, refusal_of_plan
 use Rattle.blif_read.specs.PlanText.{plan_with}
 use Rattle.blif_read.specs.Refusal.{netlist_refusal}
 use Rattle.blif_read.specs.declared.kinds.Kind.TheVariants.{Netlist, Unplanned}
-use Rattle.refusals.specs.declared.refusal.Refusal.TheVariants.{NoNetlist}
+use Rattle.refusals.specs.declared.text_refusal.TextRefusal.TheVariants.{NoNetlist}
 use Rattle.text_sections.specs.Denoted.{first_lines, first_section, netlist_in, no_plan, plan_in}
 use Rattle.text_sections.specs.Refused.{behind_refusal, byte_refusal, first_refusal, last_refusal}
 use Rattle.text_sections.proofs.SectionLemmas.{none_later, section_allowed}

@@ -16,7 +16,13 @@ use Rattle.kiss_read.specs.declared.error.KissError.TheVariants as kiss
 use Rattle.pla_read.specs.declared.error.PlaError.{PlaError}
 use Rattle.pla_read.specs.declared.error.PlaError.TheVariants as pla
 use Rattle.refusals.specs.declared.refusal.Refusal.{Refusal}
-use Rattle.refusals.specs.declared.refusal.Refusal.TheVariants.{Usage, ReadFault, WriteFault, Memory, TooLong, BadByte, Blif, Kiss, Pla, AfterTheEnd, NotListed, StepShape, TooManyStates, TooLarge, TooManyPoints, NoNetlist, TooManyAuditPoints, RowsSpent, TooManyPins, TooManyParts, TooManyJointInputs}
+use Rattle.refusals.specs.declared.refusal.Refusal.TheVariants.{Usage, ReadFault, WriteFault, Memory, TooLong, Text, Beyond}
+use Rattle.refusals.specs.declared.text_refusal.TextRefusal.{TextRefusal}
+use Rattle.refusals.specs.declared.text_refusal.TextRefusal.TheVariants.{BadByte, Blif, Kiss, Pla, AfterTheEnd, NoNetlist, NotListed, StepShape, TooMany}
+use Rattle.refusals.specs.declared.limit.Limit.{Limit as TextLimit}
+use Rattle.refusals.specs.declared.limit.Limit.TheVariants as limit
+use Rattle.refusals.specs.declared.limit.OwnLimit.{OwnLimit}
+use Rattle.refusals.specs.declared.limit.OwnLimit.TheVariants as own
 
 -- `line N: CAUSE`
 abbrev pub at_line : ℕ → List ℕ → List ℕ
@@ -108,6 +114,32 @@ pla_text (pla.RowShape line) = at_line line (codes "row shape")
 pla_text (pla.Limit line which) = at_line line (most_text (table_most_of which) which)
 pla_text (pla.Memory error) = codes "out of memory"
 
+-- a limit that a text passes by itself
+abbrev pub text_limit_text : TextLimit → List ℕ
+text_limit_text limit.States = codes "limit: 924 states"
+text_limit_text limit.Covers = codes "limit: 1048576 covers"
+text_limit_text limit.Points = codes "limit: 65536 points"
+text_limit_text limit.AuditPoints = codes "limit: 1048576 points"
+text_limit_text limit.Parts = codes "limit: 64 parts"
+text_limit_text limit.JointInputs = codes "limit: 1024 inputs"
+
+-- a limit of a command
+abbrev pub own_limit_text : OwnLimit → List ℕ
+own_limit_text (own.Rows rows) = codes "limit: " ++ (decimal rows ++ codes " rows")
+own_limit_text own.Pins = codes "limit: 20 pins"
+
+-- what a text is refused for
+abbrev pub text_refusal_text : TextRefusal → List ℕ
+text_refusal_text (BadByte line) = at_line line (codes "byte")
+text_refusal_text (Blif kind error) = blif_text kind error
+text_refusal_text (Kiss error) = kiss_text error
+text_refusal_text (Pla error) = pla_text error
+text_refusal_text (AfterTheEnd line) = at_line line (codes "after the end")
+text_refusal_text NoNetlist = codes "no netlist"
+text_refusal_text NotListed = codes "fault not listed"
+text_refusal_text (StepShape line) = at_line line (codes "step shape")
+text_refusal_text (TooMany limit) = text_limit_text limit
+
 -- why there is no answer
 abbrev pub refusal_text : Refusal → List ℕ
 refusal_text Usage = codes "usage: tsc synth|audit|faults|vectors|sim|make|join|help"
@@ -115,34 +147,22 @@ refusal_text ReadFault = codes "reading failed"
 refusal_text WriteFault = codes "writing failed"
 refusal_text (Memory error) = codes "out of memory"
 refusal_text TooLong = codes "limit: 67108864 bytes"
-refusal_text (BadByte line) = at_line line (codes "byte")
-refusal_text (Blif kind error) = blif_text kind error
-refusal_text (Kiss error) = kiss_text error
-refusal_text (Pla error) = pla_text error
-refusal_text (AfterTheEnd line) = at_line line (codes "after the end")
-refusal_text NotListed = codes "fault not listed"
-refusal_text (StepShape line) = at_line line (codes "step shape")
-refusal_text TooManyStates = codes "limit: 924 states"
-refusal_text TooLarge = codes "limit: 1048576 covers"
-refusal_text TooManyPoints = codes "limit: 65536 points"
-refusal_text NoNetlist = codes "no netlist"
-refusal_text TooManyAuditPoints = codes "limit: 1048576 points"
-refusal_text (RowsSpent rows) = codes "limit: " ++ (decimal rows ++ codes " rows")
-refusal_text TooManyPins = codes "limit: 20 pins"
-refusal_text TooManyParts = codes "limit: 64 parts"
-refusal_text TooManyJointInputs = codes "limit: 1024 inputs"
+refusal_text (Text refusal) = text_refusal_text refusal
+refusal_text (Beyond limit) = own_limit_text limit
 
 -- the note: `tsc: `, the cause, and an LF
 abbrev pub note_of : Refusal → List ℕ
 note_of refusal = codes "tsc: " ++ (refusal_text refusal ++ 10 ∷ [])
 
+-- what a text is refused for is told from the text, and so its note takes memory
+abbrev pub NeedsMemory : TextRefusal → Type 0
+NeedsMemory NoNetlist = ⊥
+NeedsMemory NotListed = ⊥
+NeedsMemory (TooMany limit) = ⊥
+NeedsMemory _ = Unit {0}
+
 -- the refusal is told from the text, or from the words, and so its note takes memory
 abbrev pub IsOfText : Refusal → Type 0
-IsOfText (BadByte line) = Unit {0}
-IsOfText (Blif kind error) = Unit {0}
-IsOfText (Kiss error) = Unit {0}
-IsOfText (Pla error) = Unit {0}
-IsOfText (AfterTheEnd line) = Unit {0}
-IsOfText (StepShape line) = Unit {0}
-IsOfText (RowsSpent rows) = Unit {0}
+IsOfText (Text refusal) = NeedsMemory refusal
+IsOfText (Beyond (own.Rows rows)) = Unit {0}
 IsOfText _ = ⊥

@@ -8,7 +8,9 @@ use Rattle.kiss_read.specs.declared.error.KissError.TheVariants as kiss
 use Rattle.pla_read.specs.declared.error.PlaError.{PlaError}
 use Rattle.pla_read.specs.declared.error.PlaError.TheVariants as pla
 use Rattle.refusals.specs.declared.refusal.Refusal.{Refusal}
-use Rattle.refusals.specs.declared.refusal.Refusal.TheVariants.{Usage as NoMeaning, ReadFault as CannotRead, WriteFault as CannotWrite, Memory as NoMemory, TooLong, BadByte, Blif, Kiss, Pla, AfterTheEnd, NotListed, StepShape, TooManyStates, TooLarge, TooManyPoints, NoNetlist, TooManyAuditPoints, RowsSpent, TooManyPins, TooManyParts, TooManyJointInputs}
+use Rattle.refusals.specs.declared.refusal.Refusal.TheVariants.{Usage as NoMeaning, ReadFault as CannotRead, WriteFault as CannotWrite, Memory as NoMemory, TooLong, Text, Beyond}
+use Rattle.refusals.specs.declared.text_refusal.TextRefusal.{TextRefusal}
+use Rattle.refusals.specs.declared.text_refusal.TextRefusal.TheVariants.{BadByte, Blif, Kiss, Pla, AfterTheEnd, NoNetlist, NotListed, StepShape, TooMany}
 use Rattle.refusals.specs.declared.status.Status.{Status}
 use Rattle.refusals.specs.declared.status.Status.TheVariants.{Usage, BadInput, Limit, ReadFault, WriteFault, Memory}
 
@@ -49,6 +51,18 @@ pla_status (pla.Limit line which) = Limit
 pla_status (pla.Memory error) = Memory
 pla_status _ = BadInput
 
+-- how a run ends whose text is refused by this
+abbrev pub text_status : TextRefusal → Status
+text_status (BadByte line) = BadInput
+text_status (Blif kind error) = blif_status error
+text_status (Kiss error) = kiss_status error
+text_status (Pla error) = pla_status error
+text_status (AfterTheEnd line) = BadInput
+text_status NoNetlist = BadInput
+text_status NotListed = BadInput
+text_status (StepShape line) = BadInput
+text_status (TooMany limit) = Limit
+
 -- how a run ends that is refused by this
 abbrev pub status_of : Refusal → Status
 status_of NoMeaning = Usage
@@ -56,19 +70,5 @@ status_of CannotRead = ReadFault
 status_of CannotWrite = WriteFault
 status_of (NoMemory error) = Memory
 status_of TooLong = Limit
-status_of (BadByte line) = BadInput
-status_of (Blif kind error) = blif_status error
-status_of (Kiss error) = kiss_status error
-status_of (Pla error) = pla_status error
-status_of (AfterTheEnd line) = BadInput
-status_of NotListed = BadInput
-status_of (StepShape line) = BadInput
-status_of TooManyStates = Limit
-status_of TooLarge = Limit
-status_of TooManyPoints = Limit
-status_of NoNetlist = BadInput
-status_of TooManyAuditPoints = Limit
-status_of (RowsSpent rows) = Limit
-status_of TooManyPins = Limit
-status_of TooManyParts = Limit
-status_of TooManyJointInputs = Limit
+status_of (Text refusal) = text_status refusal
+status_of (Beyond limit) = Limit

@@ -1,8 +1,10 @@
 //! The line that tells why there is no answer.
 ghost use Rattle.std.specs.Prelude.{◌≡◌, ◌++◌, IfOk, OnOk, IfSome, IsNone};
-ghost use Rattle.refusals.specs.Notes.{IsOfText, at_line, blif_text, kiss_text, limit_text, most_of, most_text, net_text, note_of, pla_text, refusal_text, table_most_of, which_text};
+ghost use Rattle.refusals.specs.Notes.{IsOfText, NeedsMemory, at_line, blif_text, kiss_text, limit_text, most_of, most_text, net_text, note_of, own_limit_text, pla_text, refusal_text, table_most_of, text_refusal_text, which_text};
 
+use crate::limit::{Limit, OwnLimit};
 use crate::refusal::Refusal;
+use crate::text_refusal::TextRefusal;
 use blif_read::{BlifError, Kind};
 use kiss_read::KissError;
 use pla_read::PlaError;
@@ -35,20 +37,31 @@ fn push_refusal(out: &mut Bytes, refusal: &Refusal) -> Result<(), AllocError>
     ensures text { OnOk result (out.new ≡ out.old ++ refusal_text refusal.now) }
 {
     match refusal {
-        Refusal::BadByte { line } => push_at_line(out, *line, b"byte"),
-        Refusal::Blif { kind, error } => push_blif(out, *kind, error),
-        Refusal::Kiss(error) => push_kiss(out, error),
-        Refusal::Pla(error) => push_pla(out, error),
-        Refusal::AfterTheEnd { line } => push_at_line(out, *line, b"after the end"),
-        Refusal::StepShape { line } => push_at_line(out, *line, b"step shape"),
-        Refusal::RowsSpent { rows } => push_row_limit(out, *rows),
+        Refusal::Text(refusal) => push_text_refusal(out, refusal),
+        Refusal::Beyond(OwnLimit::Rows(rows)) => push_row_limit(out, *rows),
+        _ => unreachable!(),
+    }
+}
+
+/// Appends what a text is refused for.
+fn push_text_refusal(out: &mut Bytes, refusal: &TextRefusal) -> Result<(), AllocError>
+    requires needed { NeedsMemory refusal.now }
+    ensures text { OnOk result (out.new ≡ out.old ++ text_refusal_text refusal.now) }
+{
+    match refusal {
+        TextRefusal::BadByte { line } => push_at_line(out, *line, b"byte"),
+        TextRefusal::Blif { kind, error } => push_blif(out, *kind, error),
+        TextRefusal::Kiss(error) => push_kiss(out, error),
+        TextRefusal::Pla(error) => push_pla(out, error),
+        TextRefusal::AfterTheEnd { line } => push_at_line(out, *line, b"after the end"),
+        TextRefusal::StepShape { line } => push_at_line(out, *line, b"step shape"),
         _ => unreachable!(),
     }
 }
 
 /// Appends `limit: ROWS rows`.
 fn push_row_limit(out: &mut Bytes, rows: usize) -> Result<(), AllocError>
-    ensures text { OnOk result (out.new ≡ out.old ++ refusal_text (Refusal.RowsSpent rows)) }
+    ensures text { OnOk result (out.new ≡ out.old ++ own_limit_text (OwnLimit.Rows rows)) }
 {
     out.append(b"limit: ")?;
     push_number(out, rows as u64)?;
@@ -231,18 +244,37 @@ pub fn fixed_note(refusal: &Refusal) -> Option<&'static [u8]>
         Refusal::WriteFault => Some(b"tsc: writing failed\n"),
         Refusal::Memory(_) => Some(b"tsc: out of memory\n"),
         Refusal::TooLong => Some(b"tsc: limit: 67108864 bytes\n"),
-        Refusal::TooManyStates => Some(b"tsc: limit: 924 states\n"),
-        Refusal::TooLarge => Some(b"tsc: limit: 1048576 covers\n"),
-        Refusal::TooManyPoints => Some(b"tsc: limit: 65536 points\n"),
-        Refusal::NoNetlist => Some(b"tsc: no netlist\n"),
-        Refusal::TooManyAuditPoints => Some(b"tsc: limit: 1048576 points\n"),
-        Refusal::TooManyPins => Some(b"tsc: limit: 20 pins\n"),
-        Refusal::TooManyParts => Some(b"tsc: limit: 64 parts\n"),
-        Refusal::TooManyJointInputs => Some(b"tsc: limit: 1024 inputs\n"),
-        Refusal::NotListed => Some(b"tsc: fault not listed\n"),
-        Refusal::BadByte { .. } | Refusal::Blif { .. } => None,
-        Refusal::Kiss(_) | Refusal::Pla(_) => None,
-        Refusal::AfterTheEnd { .. } | Refusal::StepShape { .. } => None,
-        Refusal::RowsSpent { .. } => None,
+        Refusal::Text(refusal) => fixed_text_note(refusal),
+        Refusal::Beyond(OwnLimit::Rows(_)) => None,
+        Refusal::Beyond(OwnLimit::Pins) => Some(b"tsc: limit: 20 pins\n"),
+    }
+}
+
+/// The note of what a text is refused for, if it isn't told from the text.
+fn fixed_text_note(refusal: &TextRefusal) -> Option<&'static [u8]>
+    ensures note { IfSome result (λ note. note.now ≡ note_of (Refusal.Text refusal.now)) }
+    ensures none { IsNone result → NeedsMemory refusal.now }
+{
+    match refusal {
+        TextRefusal::NoNetlist => Some(b"tsc: no netlist\n"),
+        TextRefusal::NotListed => Some(b"tsc: fault not listed\n"),
+        TextRefusal::TooMany(limit) => Some(limit_note(*limit)),
+        TextRefusal::BadByte { .. } | TextRefusal::Blif { .. } => None,
+        TextRefusal::Kiss(_) | TextRefusal::Pla(_) => None,
+        TextRefusal::AfterTheEnd { .. } | TextRefusal::StepShape { .. } => None,
+    }
+}
+
+/// The note of a limit that a text passes.
+fn limit_note(limit: Limit) -> &'static [u8]
+    ensures note { result.now ≡ note_of (Refusal.Text (TextRefusal.TooMany limit)) }
+{
+    match limit {
+        Limit::States => b"tsc: limit: 924 states\n",
+        Limit::Covers => b"tsc: limit: 1048576 covers\n",
+        Limit::Points => b"tsc: limit: 65536 points\n",
+        Limit::AuditPoints => b"tsc: limit: 1048576 points\n",
+        Limit::Parts => b"tsc: limit: 64 parts\n",
+        Limit::JointInputs => b"tsc: limit: 1024 inputs\n",
     }
 }

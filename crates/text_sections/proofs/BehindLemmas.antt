@@ -4,7 +4,8 @@ use Rattle.std.proofs.lemmas.Bool.{lt-ltb, le-ltb}
 use Rattle.tsc_text.specs.TextLine.{TextLine}
 use Rattle.blif_read.specs.declared.kinds.Kind.{Kind}
 use Rattle.refusals.specs.declared.refusal.Refusal.{Refusal}
-use Rattle.refusals.specs.declared.refusal.Refusal.TheVariants.{NoNetlist}
+use Rattle.refusals.specs.declared.text_refusal.TextRefusal.{TextRefusal}
+use Rattle.refusals.specs.declared.text_refusal.TextRefusal.TheVariants.{NoNetlist}
 use Rattle.text_sections.specs.Refused.{IsRefusedBy, behind_refusal, last_refusal}
 
 module _ (kind : Kind) (lines : List TextLine) (from : ℕ) where
@@ -15,7 +16,7 @@ module _ (kind : Kind) (lines : List TextLine) (from : ℕ) where
   -- where a line stands from that place on, what refuses the section as the last one refuses it after another
   pub refused_last : (given : Refusal) → from < length lines → IsRefusedBy (last_refusal kind lines from) given → IsRefusedBy (behind_refusal kind lines from) given
   refused_last given there refused =
-      let P : Option Refusal → Type 0 = λ r. IsRefusedBy r given in subst P (sym (same_refusal there)) refused
+      let P : Option TextRefusal → Type 0 = λ r. IsRefusedBy r given in subst P (sym (same_refusal there)) refused
 
   -- where a line stands from that place on, a section that is allowed as the last one is allowed after another
   pub allowed_last : from < length lines → last_refusal kind lines from ≡ None → behind_refusal kind lines from ≡ None

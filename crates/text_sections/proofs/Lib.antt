@@ -7,3 +7,4 @@ pub mod OutputsApart
 pub mod MachineLemmas
 pub mod TableLemmas
 pub mod PartLemmas
+pub mod StopLemmas

@@ -13,7 +13,8 @@ use Rattle.kiss_read.specs.TableText.{machine_text}
 use Rattle.kiss_read.specs.declared.error.KissError.{KissError}
 use Rattle.kiss_read.specs.declared.error.KissError.TheVariants as kiss
 use Rattle.refusals.specs.declared.refusal.Refusal.{Refusal}
-use Rattle.refusals.specs.declared.refusal.Refusal.TheVariants.{AfterTheEnd}
+use Rattle.refusals.specs.declared.text_refusal.TextRefusal.{TextRefusal}
+use Rattle.refusals.specs.declared.text_refusal.TextRefusal.TheVariants.{AfterTheEnd}
 use Rattle.text_sections.specs.Denoted.{machine_in, machine_lines, machine_section}
 use Rattle.text_sections.specs.Refused.{IsRefusedBy, as_machine_refusal, behind_machine, first_of, machine_refusal}
 use Rattle.text_sections.proofs.SectionLemmas.{behind, next_within, none_behind}
@@ -65,10 +66,10 @@ pub denoted_of : {A : Type 0} (f : List TextLine → A) (lines : List TextLine) 
 denoted_of f lines section given is same = same ∙ ap (λ s. f (section_lines lines s)) is
 
 -- where what the lines begin with is not refused, they are refused for what stands behind it alone
-only_behind : (lines : List TextLine) (first given : Option Refusal) → first ≡ None → behind_machine lines ≡ given → first_of first (behind_machine lines) ≡ given
+only_behind : (lines : List TextLine) (first given : Option TextRefusal) → first ≡ None → behind_machine lines ≡ given → first_of first (behind_machine lines) ≡ given
 only_behind lines first given none left = ap (λ r. first_of r (behind_machine lines)) none ∙ left
 
-pub left_behind : (lines : List TextLine) (first : Option Refusal) (section : Section) (count number : ℕ)
+pub left_behind : (lines : List TextLine) (first : Option TextRefusal) (section : Section) (count number : ℕ)
     → section ≡ machine_section lines → first ≡ None
     → section.next < count → count ≡ length lines → number ≡ (the_line lines section.next).number
     → first_of first (behind_machine lines) ≡ Some (AfterTheEnd number)
@@ -81,7 +82,7 @@ left_behind lines first section count number is none lt counted numbered =
     (behind (machine_section lines).next (length lines) (AfterTheEnd (the_line lines (machine_section lines).next).number) (subst P is there)
     ∙ ap (λ n. Some (AfterTheEnd n)) (sym number_is))
 
-pub none_left : (lines : List TextLine) (first : Option Refusal) (section : Section) (count : ℕ)
+pub none_left : (lines : List TextLine) (first : Option TextRefusal) (section : Section) (count : ℕ)
     → section ≡ machine_section lines → first ≡ None
     → count ≤ section.next → count ≡ length lines → first_of first (behind_machine lines) ≡ None
 none_left lines first section count is none le counted =

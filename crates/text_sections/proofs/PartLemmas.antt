@@ -15,7 +15,9 @@ use Rattle.tsc_net.specs.declared.planned.PlannedNetlist.{PlannedNetlist}
 use Rattle.blif_read.specs.Denotes.{DenotesNetlist}
 use Rattle.blif_read.specs.declared.kinds.Kind.TheVariants.{Netlist}
 use Rattle.refusals.specs.declared.refusal.Refusal.{Refusal}
-use Rattle.refusals.specs.declared.refusal.Refusal.TheVariants.{TooManyParts}
+use Rattle.refusals.specs.declared.limit.Limit.TheVariants.{Parts}
+use Rattle.refusals.specs.declared.text_refusal.TextRefusal.{TextRefusal}
+use Rattle.refusals.specs.declared.text_refusal.TextRefusal.TheVariants.{TooMany}
 use Rattle.text_sections.specs.Denoted.{lines_from, net_from, section_from}
 use Rattle.text_sections.specs.Parts.{IsPartOf, count_refusal, has_too_many_parts, parts_of, parts_refusal, planned_of, sections_behind, sections_of, sections_refusal, with_line}
 use Rattle.text_sections.specs.Refused.{IsRefusedBy, first_of, refusal_from}
@@ -124,7 +126,7 @@ few_enough : (lines : List TextLine) → length (sections_behind lines) ≤ 64 �
 few_enough [] few = refl
 few_enough (line ∷ lines) few = le-ltb 64 (length (sections_behind (line ∷ lines))) few
 
-pub refused_count : (lines : List TextLine) → 64 < length (sections_behind lines) → parts_refusal lines ≡ Some TooManyParts
+pub refused_count : (lines : List TextLine) → 64 < length (sections_behind lines) → parts_refusal lines ≡ Some (TooMany Parts)
 refused_count lines many = ap (λ b. first_of (count_refusal b) (sections_refusal (sections_of lines))) (too_many lines many)
 
 -- where there are at most 64 sections, lines as parts are refused exactly as their sections are
@@ -188,7 +190,7 @@ module _ (lines : List TextLine) (from : ℕ) (parts more : List PlannedNetlist)
 
   pub one_refused : (given : Refusal) → IsRefusedBy (refusal_from Netlist lines from) given → IsRefusedBy (sections_refusal sections) given
   one_refused given refused =
-      let P : Option Refusal → Type 0 = λ r. IsRefusedBy r given in
+      let P : Option TextRefusal → Type 0 = λ r. IsRefusedBy r given in
       subst P (ap sections_refusal (sym cut_so)) (refused_first (refusal_from Netlist lines from) (sections_refusal rest) given refused)
 
   one_planned : All (IsPartOf lines) parts → IsPartOf lines (planned_of (lines_from lines from)) → All (IsPartOf lines) more
@@ -234,7 +236,7 @@ next_read lines from section parts more there at are added allowed is =
 pub next_refused : (lines : List TextLine) (from : ℕ) (parts : List PlannedNetlist) (given : Refusal) → from < length lines → AreReadTo lines from parts
     → IsRefusedBy (refusal_from Netlist lines from) given → IsRefusedBy (sections_refusal (sections_of lines)) given
 next_refused lines from parts given there are refused =
-    let P : Option Refusal → Type 0 = λ r. IsRefusedBy r given in
+    let P : Option TextRefusal → Type 0 = λ r. IsRefusedBy r given in
     let more : List PlannedNetlist = parts ++ planned_of (lines_from lines from) ∷ [] in
     subst P (sym are.refused) (one_refused lines from parts more (sections_behind (drop from lines)) (next_section lines from there) refl given refused)
 

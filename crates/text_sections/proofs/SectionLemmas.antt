@@ -17,7 +17,9 @@ use Rattle.blif_read.specs.Refusal.{IsRefusedBy as IsRefusedByError}
 use Rattle.blif_read.specs.declared.error.BlifError.{BlifError}
 use Rattle.blif_read.specs.declared.error.BlifError.TheVariants.{Unsupported, WordCount, RowOutside, RowShape, Mixed, LatchInSource, LatchClock, LatchInit, PlanShape, Limit, Net, NoPlan, PlanName, Memory as NoMemory}
 use Rattle.refusals.specs.declared.refusal.Refusal.{Refusal}
-use Rattle.refusals.specs.declared.refusal.Refusal.TheVariants.{Usage, ReadFault, WriteFault, Memory, TooLong, BadByte, Blif, Kiss, Pla, AfterTheEnd, NotListed, StepShape, TooManyStates, TooLarge, TooManyPoints, NoNetlist, TooManyAuditPoints, RowsSpent, TooManyPins, TooManyParts, TooManyJointInputs}
+use Rattle.refusals.specs.declared.text_refusal.TextRefusal.{TextRefusal}
+use Rattle.refusals.specs.declared.refusal.Refusal.TheVariants.{Memory, Text}
+use Rattle.refusals.specs.declared.text_refusal.TextRefusal.TheVariants.{AfterTheEnd}
 use Rattle.text_sections.specs.Refused.{IsRefusedBy, as_refusal, byte_refusal, first_of, last_refusal, left_behind, lines_refusal, refusal_from, section_refusal, text_refusal}
 use Rattle.text_sections.specs.Denoted.{lines_from, section_from}
 
@@ -28,45 +30,27 @@ section_is_one lines from within =
     record { order = omega arith; within = omega (arith, within, last, length-drop from lines) }
 
 -- what is refused first is refused, and what is refused after nothing else was
-pub refused_first : (first later : Option Refusal) (given : Refusal) → IsRefusedBy first given → IsRefusedBy (first_of first later) given
-refused_first first later Usage refused = ap (λ r. first_of r later) refused
-refused_first first later ReadFault refused = ap (λ r. first_of r later) refused
-refused_first first later WriteFault refused = ap (λ r. first_of r later) refused
+pub refused_first : (first later : Option TextRefusal) (given : Refusal) → IsRefusedBy first given → IsRefusedBy (first_of first later) given
 refused_first first later (Memory error) refused = tt
-refused_first first later TooLong refused = ap (λ r. first_of r later) refused
-refused_first first later (BadByte line) refused = ap (λ r. first_of r later) refused
-refused_first first later (Blif kind error) refused = ap (λ r. first_of r later) refused
-refused_first first later (Kiss error) refused = ap (λ r. first_of r later) refused
-refused_first first later (Pla error) refused = ap (λ r. first_of r later) refused
-refused_first first later (AfterTheEnd line) refused = ap (λ r. first_of r later) refused
-refused_first first later NotListed refused = ap (λ r. first_of r later) refused
-refused_first first later (StepShape line) refused = ap (λ r. first_of r later) refused
-refused_first first later TooManyStates refused = ap (λ r. first_of r later) refused
-refused_first first later TooLarge refused = ap (λ r. first_of r later) refused
-refused_first first later TooManyPoints refused = ap (λ r. first_of r later) refused
-refused_first first later NoNetlist refused = ap (λ r. first_of r later) refused
-refused_first first later TooManyAuditPoints refused = ap (λ r. first_of r later) refused
-refused_first first later (RowsSpent rows) refused = ap (λ r. first_of r later) refused
-refused_first first later TooManyPins refused = ap (λ r. first_of r later) refused
-refused_first first later TooManyParts refused = ap (λ r. first_of r later) refused
-refused_first first later TooManyJointInputs refused = ap (λ r. first_of r later) refused
+refused_first first later (Text given) refused = ap (λ r. first_of r later) refused
+refused_first first later given refused = absurd refused
 
 -- where the first of two refusals is none, the two in order refuse what the later one refuses
-pub refused_later : (first later : Option Refusal) (given : Refusal) → first ≡ None → IsRefusedBy later given → IsRefusedBy (first_of first later) given
+pub refused_later : (first later : Option TextRefusal) (given : Refusal) → first ≡ None → IsRefusedBy later given → IsRefusedBy (first_of first later) given
 refused_later first later given none refused =
-    let P : Option Refusal → Type 0 = λ r. IsRefusedBy (first_of r later) given in subst P (sym none) refused
+    let P : Option TextRefusal → Type 0 = λ r. IsRefusedBy (first_of r later) given in subst P (sym none) refused
 
 -- where each of two refusals is none, the two in order are none
-pub allowed_both : (first later : Option Refusal) → first ≡ None → later ≡ None → first_of first later ≡ None
+pub allowed_both : (first later : Option TextRefusal) → first ≡ None → later ≡ None → first_of first later ≡ None
 allowed_both first later none also = ap (λ r. first_of r later) none ∙ also
 
 -- of two refusals that are none together, each is none
-pub none_first : (first later : Option Refusal) → first_of first later ≡ None → first ≡ None
+pub none_first : (first later : Option TextRefusal) → first_of first later ≡ None → first ≡ None
 none_first None later e = refl
 none_first (Some refusal) later e = cc
 
 -- where two refusals in order are none, the later one is none
-pub none_later : (first later : Option Refusal) → first_of first later ≡ None → later ≡ None
+pub none_later : (first later : Option TextRefusal) → first_of first later ≡ None → later ≡ None
 none_later None later e = e
 none_later (Some refusal) later e = cc
 
@@ -102,11 +86,11 @@ refused_section kind first NoPlan refused = ap (section_refusal kind) refused
 refused_section kind first (PlanName line) refused = ap (section_refusal kind) refused
 
 -- a line that stands behind the section, and none
-pub behind : (next count : ℕ) (refusal : Refusal) → next < count → (if nat_lt next count then Some refusal else None) ≡ Some refusal
+pub behind : (next count : ℕ) (refusal : TextRefusal) → next < count → (if nat_lt next count then Some refusal else None) ≡ Some refusal
 behind next count refusal lt = ap (λ b. if b then Some refusal else None) (lt-ltb next count lt)
 
 -- where the section ends with the lines, no line stands after it
-pub none_behind : (next count : ℕ) (refusal : Refusal) → count ≤ next → (if nat_lt next count then Some refusal else None) ≡ None
+pub none_behind : (next count : ℕ) (refusal : TextRefusal) → count ≤ next → (if nat_lt next count then Some refusal else None) ≡ None
 none_behind next count refusal le = ap (λ b. if b then Some refusal else None) (le-ltb next count le)
 
 -- the next section begins within the lines
@@ -135,7 +119,7 @@ module _ (lines : List TextLine) (from : ℕ) (section : Section) (is : section 
       ap (section_refusal kind) none
 
   -- where it is not refused, the lines are refused for what stands behind it alone
-  only_behind : (kind : Kind) (given : Option Refusal) → refusal_from kind lines from ≡ None → left_behind lines from ≡ given → last_refusal kind lines from ≡ given
+  only_behind : (kind : Kind) (given : Option TextRefusal) → refusal_from kind lines from ≡ None → left_behind lines from ≡ given → last_refusal kind lines from ≡ given
   only_behind kind given none left = ap (λ r. first_of r (left_behind lines from)) none ∙ left
 
   pub some_left : (kind : Kind) (count number : ℕ) → refusal_from kind lines from ≡ None

@@ -12,8 +12,9 @@ use Rattle.tsc_net.specs.declared.planned.PlannedNetlist.{PlannedNetlist}
 use Rattle.blif_read.specs.Denotes.{plan_text, refusal}
 use Rattle.blif_read.specs.NamedText.{named_text}
 use Rattle.blif_read.specs.declared.kinds.Kind.TheVariants.{Netlist}
-use Rattle.refusals.specs.declared.refusal.Refusal.{Refusal}
-use Rattle.refusals.specs.declared.refusal.Refusal.TheVariants.{TooManyParts}
+use Rattle.refusals.specs.declared.limit.Limit.TheVariants.{Parts}
+use Rattle.refusals.specs.declared.text_refusal.TextRefusal.{TextRefusal}
+use Rattle.refusals.specs.declared.text_refusal.TextRefusal.TheVariants.{TooMany}
 use Rattle.text_sections.specs.Denoted.{no_plan}
 use Rattle.text_sections.specs.Refused.{first_of, section_refusal}
 
@@ -56,15 +57,15 @@ abbrev pub has_too_many_parts : List TextLine → Bool
 has_too_many_parts lines = nat_lt 64 (length (sections_of lines))
 
 -- more netlists than are read
-abbrev pub count_refusal : Bool → Option Refusal
-count_refusal true = Some TooManyParts
+abbrev pub count_refusal : Bool → Option TextRefusal
+count_refusal true = Some (TooMany Parts)
 count_refusal false = None
 
 -- sections, each as a netlist with its plan, in order
-abbrev pub sections_refusal : List (List TextLine) → Option Refusal
+abbrev pub sections_refusal : List (List TextLine) → Option TextRefusal
 sections_refusal [] = None
 sections_refusal (section ∷ sections) = first_of (section_refusal Netlist (refusal Netlist section)) (sections_refusal sections)
 
 -- the lines of a text as netlists: how many there are, then each of them
-abbrev pub parts_refusal : List TextLine → Option Refusal
+abbrev pub parts_refusal : List TextLine → Option TextRefusal
 parts_refusal lines = first_of (count_refusal (has_too_many_parts lines)) (sections_refusal (sections_of lines))

@@ -9,7 +9,7 @@ ghost use Rattle.text_sections.specs.Denoted.{machine_lines};
 ghost use Rattle.text_sections.specs.Refused.{IsRefusedBy, as_machine_refusal, machine_lines_refusal, machine_refusal};
 
 use kiss_read::{KissError, KissText, read_kiss};
-use refusals::Refusal;
+use refusals::{Refusal, TextRefusal};
 use std::alloc::Global;
 use tsc_text::{End, Lines};
 
@@ -36,9 +36,9 @@ pub fn machine_alone(alloc: Global, lines: &Lines) -> Result<KissText, Refusal>
     };
     let next = lines.section(0, End::Kiss).next;
     if next < lines.len() {
-        return Err(Refusal::AfterTheEnd {
+        return Err(Refusal::Text(TextRefusal::AfterTheEnd {
             line: lines.number(next),
-        });
+        }));
     }
     Ok(text)
 }
@@ -72,6 +72,6 @@ fn as_machine_refusal(error: KissError) -> Refusal
 {
     match error {
         KissError::Memory(error) => Refusal::Memory(error),
-        error => Refusal::Kiss(error),
+        error => Refusal::Text(TextRefusal::Kiss(error)),
     }
 }

@@ -6,7 +6,7 @@ ghost use Rattle.text_sections.specs.Parts.{IsPartOf, parts_of, parts_refusal, p
 ghost use Rattle.text_sections.specs.Refused.{IsRefusedBy, refusal_from};
 
 use crate::section::{behind_first, netlist_from};
-use refusals::Refusal;
+use refusals::{Limit, Refusal, TextRefusal};
 use std::alloc::Global;
 use tsc_io::Items;
 use tsc_net::PlannedNetlist;
@@ -30,7 +30,7 @@ pub fn planned_parts(alloc: Global, lines: &Lines) -> Result<Items<PlannedNetlis
     ensures refused { IfErr result (IsRefusedBy (parts_refusal lines.now)) }
 {
     if section_count(lines) > MOST_PARTS {
-        return Err(Refusal::TooManyParts);
+        return Err(Refusal::Text(TextRefusal::TooMany(Limit::Parts)));
     }
     read_parts(alloc, lines)
 }

@@ -11,7 +11,7 @@ ghost use Rattle.text_sections.specs.Denoted.{frees_of, machine_lines, table_of,
 ghost use Rattle.text_sections.specs.Refused.{IsRefusedBy, as_pla_refusal, first_table_refusal, pla_lines_refusal};
 
 use pla_read::{PlaError, PlaText, read_pla};
-use refusals::Refusal;
+use refusals::{Refusal, TextRefusal};
 use std::alloc::Global;
 use tsc_text::{End, Lines};
 
@@ -48,9 +48,9 @@ pub fn table_alone(alloc: Global, lines: &Lines) -> Result<PlaText, Refusal>
     };
     let next = lines.section(0, End::Kiss).next;
     if next < lines.len() {
-        return Err(Refusal::AfterTheEnd {
+        return Err(Refusal::Text(TextRefusal::AfterTheEnd {
             line: lines.number(next),
-        });
+        }));
     }
     Ok(text)
 }
@@ -94,6 +94,6 @@ fn as_pla_refusal(error: PlaError) -> Refusal
 {
     match error {
         PlaError::Memory(error) => Refusal::Memory(error),
-        error => Refusal::Pla(error),
+        error => Refusal::Text(TextRefusal::Pla(error)),
     }
 }

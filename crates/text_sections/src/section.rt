@@ -15,7 +15,7 @@ ghost use Rattle.text_sections.specs.Denoted.{first_lines, first_net, first_sect
 
 use blif_read::{BlifError, BlifText, Kind, read_blif};
 use blif_write::read_nets_are_writable;
-use refusals::Refusal;
+use refusals::{Refusal, TextRefusal};
 use std::alloc::Global;
 use tsc_io::Bytes;
 use tsc_net::{Netlist, PlannedNetlist};
@@ -74,7 +74,7 @@ pub fn text_lines<'a>(alloc: Global, text: &'a Bytes) -> Result<Lines<'a>, Refus
 {
     match Lines::of(alloc, text) {
         Ok(lines) => Ok(lines),
-        Err(TextError::BadByte { line }) => Err(Refusal::BadByte { line }),
+        Err(TextError::BadByte { line }) => Err(Refusal::Text(TextRefusal::BadByte { line })),
         Err(TextError::Memory(error)) => Err(Refusal::Memory(error)),
     }
 }
@@ -137,10 +137,10 @@ pub fn last_netlist(alloc: Global, lines: &Lines, from: usize) -> Result<Planned
     };
     match plan {
         Some(plan) => Ok(PlannedNetlist { net, plan }),
-        None => Err(Refusal::Blif {
+        None => Err(Refusal::Text(TextRefusal::Blif {
             kind: Kind::Netlist,
             error: BlifError::NoPlan,
-        }),
+        })),
     }
 }
 
@@ -158,7 +158,7 @@ pub fn unplanned_behind(alloc: Global, lines: &Lines, from: usize) -> Result<Net
     ensures refused { IfErr result (IsRefusedBy (behind_refusal Kind.Unplanned lines.now from)) }
 {
     if from >= lines.len() {
-        return Err(Refusal::NoNetlist);
+        return Err(Refusal::Text(TextRefusal::NoNetlist));
     }
     match last_text(alloc, lines, from, Kind::Unplanned) {
         Ok(text) => Ok(text.net),
@@ -182,9 +182,9 @@ fn last_text(alloc: Global, lines: &Lines, from: usize, kind: Kind) -> Result<Bl
     };
     let next = lines.section(from, End::Blif).next;
     if next < lines.len() {
-        return Err(Refusal::AfterTheEnd {
+        return Err(Refusal::Text(TextRefusal::AfterTheEnd {
             line: lines.number(next),
-        });
+        }));
     }
     Ok(text)
 }
@@ -231,10 +231,10 @@ pub fn netlist_from(alloc: Global, lines: &Lines, from: usize) -> Result<Planned
     };
     match plan {
         Some(plan) => Ok(PlannedNetlist { net, plan }),
-        None => Err(Refusal::Blif {
+        None => Err(Refusal::Text(TextRefusal::Blif {
             kind: Kind::Netlist,
             error: BlifError::NoPlan,
-        }),
+        })),
     }
 }
 
@@ -268,6 +268,6 @@ fn as_refusal(kind: Kind, error: BlifError) -> Refusal
 {
     match error {
         BlifError::Memory(error) => Refusal::Memory(error),
-        error => Refusal::Blif { kind, error },
+        error => Refusal::Text(TextRefusal::Blif { kind, error }),
     }
 }

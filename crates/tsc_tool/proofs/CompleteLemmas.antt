@@ -6,8 +6,10 @@ use Rattle.std.specs.Io.KnownBytes.{Consumes}
 use Rattle.tsc_io.specs.Counts.{Rose}
 use Rattle.tsc_io.specs.Reading.{CameMore}
 use Rattle.commands.specs.declared.command.Command.{Command}
+use Rattle.refusals.specs.declared.limit.OwnLimit.{OwnLimit}
 use Rattle.refusals.specs.declared.refusal.Refusal.{Refusal}
-use Rattle.refusals.specs.declared.refusal.Refusal.TheVariants.{Usage as NoMeaning, ReadFault as CannotRead, WriteFault as CannotWrite, Memory as NoMemory, TooLong, BadByte, Blif, Kiss, Pla, AfterTheEnd, NotListed, StepShape, TooManyStates, TooLarge, TooManyPoints, NoNetlist, TooManyAuditPoints, RowsSpent, TooManyPins, TooManyParts, TooManyJointInputs}
+use Rattle.refusals.specs.declared.refusal.Refusal.TheVariants.{Usage as NoMeaning, ReadFault as CannotRead, WriteFault as CannotWrite, Memory as NoMemory, TooLong, Text, Beyond}
+use Rattle.refusals.specs.declared.text_refusal.TextRefusal.{TextRefusal}
 use Rattle.commands.specs.declared.request.Request.{Request}
 use Rattle.commands.specs.declared.request.Request.TheVariants.{Read, Make, Help}
 use Rattle.refusals.specs.declared.status.Status.{Status}
@@ -26,7 +28,7 @@ IsMemory _ = ⊥
 same_text : (source : SourceCall) (text read : List ℕ) → source.left ≡ Some text → IsRead source read → read ≡ text
 same_text source text read tells is = let P : Option (List ℕ) → Type 0 = λ left. IfSome left (λ l. read ≡ l) in subst P tells is.all
 
-not_both : (refusal : Option Refusal) (given : Refusal) → refusal ≡ None → refusal ≡ Some given → ⊥
+not_both : (refusal : Option TextRefusal) (given : TextRefusal) → refusal ≡ None → refusal ≡ Some given → ⊥
 not_both None given none some = cc
 not_both (Some other) given none some = cc
 
@@ -36,12 +38,12 @@ longer text came None short p many = p
 longer text came (Some rest) short p many = let e : length text ≡ length came + length rest = ap length p ∙ length-append came rest in omega arith
 
 module _ (command : Command) (source : SourceCall) (valid : TellsValid command source) where
-  not_refused : (given : Refusal) → IsRefusedText command source given → ⊥
+  not_refused : (given : TextRefusal) → IsRefusedText command source given → ⊥
   not_refused given refused =
       let same : refused.text ≡ valid.text = same_text source valid.text refused.text valid.tells refused.read in
       not_both (refusal_of command valid.text) given valid.allowed (subst (λ t. refusal_of command t ≡ Some given) same refused.refused)
 
-  not_beyond : (limit : Refusal) → IsBeyondLimit command source limit → ⊥
+  not_beyond : (limit : OwnLimit) → IsBeyondLimit command source limit → ⊥
   not_beyond limit beyond =
       let same : beyond.text ≡ valid.text = same_text source valid.text beyond.text valid.tells beyond.read in
       valid.within (subst (PassesLimit command) same beyond.passes)
@@ -59,22 +61,8 @@ module _ (command : Command) (source : SourceCall) (valid : TellsValid command s
     memory_alone CannotWrite stops = taken stops.gained.rose
     memory_alone (NoMemory error) stops = tt
     memory_alone TooLong stops = not_too_long stops.because
-    memory_alone (BadByte line) stops = not_refused (BadByte line) stops.because
-    memory_alone (Blif kind error) stops = not_refused (Blif kind error) stops.because
-    memory_alone (Kiss error) stops = not_refused (Kiss error) stops.because
-    memory_alone (Pla error) stops = not_refused (Pla error) stops.because
-    memory_alone (AfterTheEnd line) stops = not_refused (AfterTheEnd line) stops.because
-    memory_alone NotListed stops = not_refused NotListed stops.because
-    memory_alone (StepShape line) stops = not_refused (StepShape line) stops.because
-    memory_alone TooManyStates stops = not_refused TooManyStates stops.because
-    memory_alone TooLarge stops = not_refused TooLarge stops.because
-    memory_alone TooManyPoints stops = not_refused TooManyPoints stops.because
-    memory_alone NoNetlist stops = not_refused NoNetlist stops.because
-    memory_alone TooManyAuditPoints stops = not_refused TooManyAuditPoints stops.because
-    memory_alone (RowsSpent rows) stops = not_beyond (RowsSpent rows) stops.because
-    memory_alone TooManyPins stops = not_beyond TooManyPins stops.because
-    memory_alone TooManyParts stops = not_refused TooManyParts stops.because
-    memory_alone TooManyJointInputs stops = not_refused TooManyJointInputs stops.because
+    memory_alone (Text refusal) stops = not_refused refusal stops.because
+    memory_alone (Beyond limit) stops = not_beyond limit stops.because
 
 -- the same of what reads nothing
 made_memory : (number : ℕ) (sink : SinkCall) (refusal : Refusal) → (Rose sink.faults sink.faults_after → ⊥) → StopsMake number sink refusal → IsMemory refusal

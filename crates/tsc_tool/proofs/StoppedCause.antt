@@ -10,7 +10,9 @@ use Rattle.kiss_read.specs.declared.error.KissError.TheVariants as kiss
 use Rattle.pla_read.specs.declared.error.PlaError.{PlaError}
 use Rattle.pla_read.specs.declared.error.PlaError.TheVariants as pla
 use Rattle.refusals.specs.declared.refusal.Refusal.{Refusal}
-use Rattle.refusals.specs.declared.refusal.Refusal.TheVariants.{Usage as NoMeaning, ReadFault as CannotRead, WriteFault as CannotWrite, Memory as NoMemory, TooLong, BadByte, Blif, Kiss, Pla, AfterTheEnd, NotListed, StepShape, TooManyStates, TooLarge, TooManyPoints, NoNetlist, TooManyAuditPoints, RowsSpent, TooManyPins, TooManyParts, TooManyJointInputs}
+use Rattle.refusals.specs.declared.refusal.Refusal.TheVariants.{Usage as NoMeaning, ReadFault as CannotRead, WriteFault as CannotWrite, Memory as NoMemory, TooLong, Text, Beyond}
+use Rattle.refusals.specs.declared.text_refusal.TextRefusal.{TextRefusal}
+use Rattle.refusals.specs.declared.text_refusal.TextRefusal.TheVariants.{BadByte, Blif, Kiss, Pla, AfterTheEnd, NoNetlist, NotListed, StepShape, TooMany}
 use Rattle.commands.specs.declared.request.Request.{Request}
 use Rattle.commands.specs.declared.request.Request.TheVariants.{Read, Make, Help}
 use Rattle.refusals.specs.declared.status.Status.{Status}
@@ -19,7 +21,7 @@ use Rattle.refusals.specs.Notes.{IsOfText}
 use Rattle.tsc_tool.specs.Cause.{Cause, IsRefused, IsToldAs, StopsRequest, Tells}
 use Rattle.netlist_answers.specs.Devices.{Devices, SinkCall, SourceCall}
 use Rattle.commands.specs.Meaning.{meaning}
-use Rattle.refusals.specs.StatusOf.{blif_status, kiss_status, net_status, pla_status, status_of}
+use Rattle.refusals.specs.StatusOf.{blif_status, kiss_status, net_status, pla_status, status_of, text_status}
 
 -- a status with which a refusal ends what was asked for
 abbrev IsStopped : Status → Type 0
@@ -68,6 +70,17 @@ pla_stopped (pla.RowShape line) = tt
 pla_stopped (pla.Limit line which) = tt
 pla_stopped (pla.Memory error) = tt
 
+text_stopped : (refusal : TextRefusal) → IsStopped (text_status refusal)
+text_stopped (BadByte line) = tt
+text_stopped (Blif kind error) = blif_stopped error
+text_stopped (Kiss error) = kiss_stopped error
+text_stopped (Pla error) = pla_stopped error
+text_stopped (AfterTheEnd line) = tt
+text_stopped NoNetlist = tt
+text_stopped NotListed = tt
+text_stopped (StepShape line) = tt
+text_stopped (TooMany limit) = tt
+
 -- what was asked for has a meaning, so it isn't stopped for having none
 has_meaning : (request : Request) (source : SourceCall) (sink : SinkCall) → StopsRequest request source sink NoMeaning → ⊥
 has_meaning (Read command) source sink stops = stops.because
@@ -81,89 +94,19 @@ stopped request source sink CannotRead stops = tt
 stopped request source sink CannotWrite stops = tt
 stopped request source sink (NoMemory error) stops = tt
 stopped request source sink TooLong stops = tt
-stopped request source sink (BadByte line) stops = tt
-stopped request source sink (Blif kind error) stops = blif_stopped error
-stopped request source sink (Kiss error) stops = kiss_stopped error
-stopped request source sink (Pla error) stops = pla_stopped error
-stopped request source sink (AfterTheEnd line) stops = tt
-stopped request source sink NotListed stops = tt
-stopped request source sink (StepShape line) stops = tt
-stopped request source sink TooManyStates stops = tt
-stopped request source sink TooLarge stops = tt
-stopped request source sink TooManyPoints stops = tt
-stopped request source sink NoNetlist stops = tt
-stopped request source sink TooManyAuditPoints stops = tt
-stopped request source sink (RowsSpent rows) stops = tt
-stopped request source sink TooManyPins stops = tt
-stopped request source sink TooManyParts stops = tt
-stopped request source sink TooManyJointInputs stops = tt
+stopped request source sink (Text refusal) stops = text_stopped refusal
+stopped request source sink (Beyond limit) stops = tt
 
 -- where memory is missing for the note of a text's refusal, that stops it as well
 without_note : (request : Request) (source : SourceCall) (sink : SinkCall) (refusal : Refusal) → IsOfText refusal
     → StopsRequest request source sink refusal → StopsRequest request source sink (NoMemory alloc_error)
-without_note (Read command) source sink NoMeaning of stops = absurd of
-without_note (Read command) source sink CannotRead of stops = absurd of
-without_note (Read command) source sink CannotWrite of stops = absurd of
-without_note (Read command) source sink (NoMemory error) of stops = absurd of
-without_note (Read command) source sink TooLong of stops = absurd of
-without_note (Read command) source sink (BadByte line) of stops = record { because = tt; nothing = stops.nothing }
-without_note (Read command) source sink (Blif kind error) of stops = record { because = tt; nothing = stops.nothing }
-without_note (Read command) source sink (Kiss error) of stops = record { because = tt; nothing = stops.nothing }
-without_note (Read command) source sink (Pla error) of stops = record { because = tt; nothing = stops.nothing }
-without_note (Read command) source sink (AfterTheEnd line) of stops = record { because = tt; nothing = stops.nothing }
-without_note (Read command) source sink NotListed of stops = absurd of
-without_note (Read command) source sink (StepShape line) of stops = record { because = tt; nothing = stops.nothing }
-without_note (Read command) source sink TooManyStates of stops = absurd of
-without_note (Read command) source sink TooLarge of stops = absurd of
-without_note (Read command) source sink TooManyPoints of stops = absurd of
-without_note (Read command) source sink NoNetlist of stops = absurd of
-without_note (Read command) source sink TooManyAuditPoints of stops = absurd of
-without_note (Read command) source sink (RowsSpent rows) of stops = record { because = tt; nothing = stops.nothing }
-without_note (Read command) source sink TooManyPins of stops = absurd of
-without_note (Read command) source sink TooManyParts of stops = absurd of
-without_note (Read command) source sink TooManyJointInputs of stops = absurd of
-without_note (Make number) source sink NoMeaning of stops = absurd of
-without_note (Make number) source sink CannotRead of stops = absurd of
-without_note (Make number) source sink CannotWrite of stops = absurd of
-without_note (Make number) source sink (NoMemory error) of stops = absurd of
-without_note (Make number) source sink TooLong of stops = absurd of
-without_note (Make number) source sink (BadByte line) of stops = absurd (stops.1)
-without_note (Make number) source sink (Blif kind error) of stops = absurd (stops.1)
-without_note (Make number) source sink (Kiss error) of stops = absurd (stops.1)
-without_note (Make number) source sink (Pla error) of stops = absurd (stops.1)
-without_note (Make number) source sink (AfterTheEnd line) of stops = absurd (stops.1)
-without_note (Make number) source sink NotListed of stops = absurd of
-without_note (Make number) source sink (StepShape line) of stops = absurd (stops.1)
-without_note (Make number) source sink TooManyStates of stops = absurd of
-without_note (Make number) source sink TooLarge of stops = absurd of
-without_note (Make number) source sink TooManyPoints of stops = absurd of
-without_note (Make number) source sink NoNetlist of stops = absurd of
-without_note (Make number) source sink TooManyAuditPoints of stops = absurd of
-without_note (Make number) source sink (RowsSpent rows) of stops = absurd (stops.1)
-without_note (Make number) source sink TooManyPins of stops = absurd of
-without_note (Make number) source sink TooManyParts of stops = absurd of
-without_note (Make number) source sink TooManyJointInputs of stops = absurd of
-without_note Help source sink NoMeaning of stops = absurd of
-without_note Help source sink CannotRead of stops = absurd of
-without_note Help source sink CannotWrite of stops = absurd of
-without_note Help source sink (NoMemory error) of stops = absurd of
-without_note Help source sink TooLong of stops = absurd of
-without_note Help source sink (BadByte line) of stops = absurd (stops.1)
-without_note Help source sink (Blif kind error) of stops = absurd (stops.1)
-without_note Help source sink (Kiss error) of stops = absurd (stops.1)
-without_note Help source sink (Pla error) of stops = absurd (stops.1)
-without_note Help source sink (AfterTheEnd line) of stops = absurd (stops.1)
-without_note Help source sink NotListed of stops = absurd of
-without_note Help source sink (StepShape line) of stops = absurd (stops.1)
-without_note Help source sink TooManyStates of stops = absurd of
-without_note Help source sink TooLarge of stops = absurd of
-without_note Help source sink TooManyPoints of stops = absurd of
-without_note Help source sink NoNetlist of stops = absurd of
-without_note Help source sink TooManyAuditPoints of stops = absurd of
-without_note Help source sink (RowsSpent rows) of stops = absurd (stops.1)
-without_note Help source sink TooManyPins of stops = absurd of
-without_note Help source sink TooManyParts of stops = absurd of
-without_note Help source sink TooManyJointInputs of stops = absurd of
+without_note (Read command) source sink (Text refusal) of stops = record { because = tt; nothing = stops.nothing }
+without_note (Read command) source sink (Beyond limit) of stops = record { because = tt; nothing = stops.nothing }
+without_note (Make number) source sink (Text refusal) of stops = absurd (stops.1)
+without_note (Make number) source sink (Beyond limit) of stops = absurd (stops.1)
+without_note Help source sink (Text refusal) of stops = absurd (stops.1)
+without_note Help source sink (Beyond limit) of stops = absurd (stops.1)
+without_note request source sink refusal of stops = absurd of
 
 -- a refusal with a status of its own is the cause of it
 cause_of : (words : List (List ℕ)) (devices : Devices) (status : Status) → IsStopped status → IsRefused words devices status

@@ -5,8 +5,10 @@ use Rattle.tsc_io.specs.Reading.{CameMore}
 use Rattle.commands.specs.declared.command.Command.{Command}
 use Rattle.refusals.specs.declared.ending.Ending.{Ending}
 use Rattle.refusals.specs.declared.ending.Ending.TheVariants.{Finished, Rejected}
+use Rattle.refusals.specs.declared.limit.OwnLimit.{OwnLimit}
 use Rattle.refusals.specs.declared.refusal.Refusal.{Refusal}
-use Rattle.refusals.specs.declared.refusal.Refusal.TheVariants.{Usage as NoMeaning, ReadFault as CannotRead, WriteFault as CannotWrite, Memory as NoMemory, TooLong, BadByte, Blif, Kiss, Pla, AfterTheEnd, NotListed, StepShape, TooManyStates, TooLarge, TooManyPoints, NoNetlist, TooManyAuditPoints, RowsSpent, TooManyPins, TooManyParts, TooManyJointInputs}
+use Rattle.refusals.specs.declared.refusal.Refusal.TheVariants.{Usage as NoMeaning, ReadFault as CannotRead, WriteFault as CannotWrite, Memory as NoMemory, TooLong, Text, Beyond}
+use Rattle.refusals.specs.declared.text_refusal.TextRefusal.{TextRefusal}
 use Rattle.refusals.specs.declared.status.Status.{Status}
 use Rattle.refusals.specs.declared.status.Status.TheVariants.{Done, AuditNo, Usage, BadInput, Limit, ReadFault, WriteFault, Memory}
 use Rattle.commands.specs.declared.request.Request.{Request}
@@ -29,14 +31,14 @@ pub record IsAnswered (ending : Ending) (command : Command) (source : SourceCall
   pub answers : IsReply ending command text answer
 
 -- the command read a text that is refused by this
-pub record IsRefusedText (command : Command) (source : SourceCall) (refusal : Refusal) : Type 0 where
+pub record IsRefusedText (command : Command) (source : SourceCall) (refusal : TextRefusal) : Type 0 where
   pub text : List ℕ
   pub read : IsRead source text
   pub refused : refusal_of command text ≡ Some refusal
 
 -- the command read a text that nothing refuses, and that passes the limit of the command, which is this
-pub record IsBeyondLimit (command : Command) (source : SourceCall) (refusal : Refusal) : Type 0 where
-  pub its_own : own_limit command ≡ Some refusal
+pub record IsBeyondLimit (command : Command) (source : SourceCall) (limit : OwnLimit) : Type 0 where
+  pub its_own : own_limit command ≡ Some limit
   pub text : List ℕ
   pub read : IsRead source text
   pub allowed : refusal_of command text ≡ None
@@ -53,22 +55,8 @@ HasNoAnswer command source CannotRead = Rose source.faults source.faults_after
 HasNoAnswer command source CannotWrite = ⊥
 HasNoAnswer command source (NoMemory error) = Unit {0}
 HasNoAnswer command source TooLong = IsTooLong source
-HasNoAnswer command source (BadByte line) = IsRefusedText command source (BadByte line)
-HasNoAnswer command source (Blif kind error) = IsRefusedText command source (Blif kind error)
-HasNoAnswer command source (Kiss error) = IsRefusedText command source (Kiss error)
-HasNoAnswer command source (Pla error) = IsRefusedText command source (Pla error)
-HasNoAnswer command source (AfterTheEnd line) = IsRefusedText command source (AfterTheEnd line)
-HasNoAnswer command source NotListed = IsRefusedText command source NotListed
-HasNoAnswer command source (StepShape line) = IsRefusedText command source (StepShape line)
-HasNoAnswer command source TooManyStates = IsRefusedText command source TooManyStates
-HasNoAnswer command source TooLarge = IsRefusedText command source TooLarge
-HasNoAnswer command source TooManyPoints = IsRefusedText command source TooManyPoints
-HasNoAnswer command source NoNetlist = IsRefusedText command source NoNetlist
-HasNoAnswer command source TooManyAuditPoints = IsRefusedText command source TooManyAuditPoints
-HasNoAnswer command source (RowsSpent rows) = IsBeyondLimit command source (RowsSpent rows)
-HasNoAnswer command source TooManyPins = IsBeyondLimit command source TooManyPins
-HasNoAnswer command source TooManyParts = IsRefusedText command source TooManyParts
-HasNoAnswer command source TooManyJointInputs = IsRefusedText command source TooManyJointInputs
+HasNoAnswer command source (Text refusal) = IsRefusedText command source refusal
+HasNoAnswer command source (Beyond limit) = IsBeyondLimit command source limit
 
 -- the command had an answer, but the sink failed before it took it whole
 pub record IsUnwritten (command : Command) (source : SourceCall) (sink : SinkCall) : Type 0 where

@@ -1,5 +1,5 @@
 -- A text that is audited whatever the number of inputs: what is refused of it, what stops an answer, and the answer.
-use Rattle.std.proofs.Common.{◌≡◌, ℕ, ◌<◌, Bool, List, [], ◌∷◌, length, map, codes, Option, None, Result, IfOk, refl, sym, ap, subst, inl, inr, arith}
+use Rattle.std.proofs.Common.{◌≡◌, ℕ, ◌<◌, Bool, List, [], ◌∷◌, length, map, codes, None, Some, Result, IfOk, refl, sym, ap, subst, arith}
 use Rattle.fault_secure.specs.Circuit.{Circuit}
 use Rattle.fault_secure.specs.CodePlan.{CodePlan}
 use Rattle.tsc_text.specs.Bytes.{bad_line}
@@ -14,16 +14,17 @@ use Rattle.wide_audit.specs.declared.verdict.WideError.TheVariants.{Spent, Memor
 use Rattle.wide_audit.specs.declared.verdict.WideVerdict.{WideVerdict}
 use Rattle.wide_audit.specs.declared.verdict.WideVerdict.TheVariants.{Yes, No}
 use Rattle.refusals.specs.declared.ending.Ending.{Ending}
+use Rattle.refusals.specs.declared.limit.OwnLimit.TheVariants.{Rows}
 use Rattle.refusals.specs.declared.refusal.Refusal.{Refusal}
-use Rattle.refusals.specs.declared.refusal.Refusal.TheVariants.{RowsSpent}
 use Rattle.commands.specs.declared.source_format.SourceFormat.TheVariants.{Blif}
 use Rattle.netlist_answers.specs.declared.reply.Reply.{Reply}
 use Rattle.text_sections.specs.Denoted.{behind_source, netlist_in, second_netlist_in, second_plan_in}
-use Rattle.text_sections.specs.Refused.{IsRefusedBy, byte_refusal, first_of, netlist_refusal, source_refusal}
+use Rattle.text_sections.specs.Refused.{IsRefusedBy, StopsBeyond, byte_refusal, first_of, netlist_refusal, source_refusal}
 use Rattle.text_sections.proofs.SectionLemmas.{allowed_both, refused_later}
+use Rattle.text_sections.proofs.StopLemmas.{stops_there}
 use Rattle.wide_answers.specs.WideSections.{wide_lines_refusal, wide_refusal}
 use Rattle.wide_answers.specs.WideText.{wide_text}
-use Rattle.wide_answers.specs.WideReply.{IsWideReply, IsWideReplyOf, StopsJudged, StopsWide, refusal_by, wide_ending}
+use Rattle.wide_answers.specs.WideReply.{IsWideReply, IsWideReplyOf, NeedsMoreRows, StopsJudged, StopsWide, refusal_by, wide_ending}
 
 -- ---- what is refused
 
@@ -80,8 +81,8 @@ reply_of rows S net plan verdict ending answer right secure written ends =
 
 -- and what stops a verdict stops an answer
 stops_by : (rows : ℕ) (S : Circuit) (net : NetlistOf) (plan : CodePlan) (error : WideError) → IsWideError rows S net.circuit plan error → StopsJudged rows S net plan (refusal_by error)
-stops_by rows S net plan (Spent said) why = inr (ap RowsSpent why.0, why.1)
-stops_by rows S net plan (NoMemory error) why = inl tt
+stops_by rows S net plan (Spent said) why = (ap Rows why.0, refl, why.1)
+stops_by rows S net plan (NoMemory error) why = tt
 
 pub stops_so : (rows : ℕ) (S : Circuit) (net : NetlistOf) (plan : CodePlan) (error : WideError) (refusal : Refusal) → refusal ≡ refusal_by error → IsWideError rows S net.circuit plan error
     → StopsJudged rows S net plan refusal
@@ -109,7 +110,6 @@ module _ (text : List ℕ) (rows same_rows : ℕ) (S N : NetlistOf) (P : CodePla
       subst D plan (subst C net (subst B source (subst A counted spent)))
 
   pub stopped : (given : Refusal) → wide_refusal text ≡ None → StopsJudged rows S.circuit N P given → StopsWide same_rows text given
-  stopped given allowed (inl refused) = let Q : Option Refusal → Type 0 = λ r. IsRefusedBy r given in inl (subst Q (sym allowed) refused)
-  stopped given allowed (inr limit) =
-      let Q : ℕ → Type 0 = λ n. given ≡ RowsSpent n in
-      inr (subst Q counted limit.0, record { allowed = allowed; spent = spent_there limit.1 })
+  stopped given allowed stops =
+      let A : ℕ → Type 0 = λ n. StopsBeyond (Some (Rows n)) (wide_refusal text) (NeedsMoreRows same_rows text) given in
+      subst A counted (stops_there (Rows rows) (wide_refusal text) (IsSpent rows S.circuit N.circuit P) (NeedsMoreRows same_rows text) given allowed spent_there stops)

@@ -1,5 +1,5 @@
 -- What is answered to a text of a network and a netlist that is audited whatever the number of inputs.
-use Rattle.std.specs.Prelude.{◌≡◌, ◌⊎◌, ℕ, List, None}
+use Rattle.std.specs.Prelude.{◌≡◌, ℕ, List, None, Some}
 use Rattle.fault_secure.specs.CellSecure.{IsCellSecure}
 use Rattle.fault_secure.specs.Circuit.{Circuit}
 use Rattle.fault_secure.specs.CodePlan.{CodePlan}
@@ -14,11 +14,12 @@ use Rattle.wide_audit.specs.declared.verdict.WideVerdict.{WideVerdict}
 use Rattle.wide_audit.specs.declared.verdict.WideVerdict.TheVariants.{Yes, No}
 use Rattle.refusals.specs.declared.ending.Ending.{Ending}
 use Rattle.refusals.specs.declared.ending.Ending.TheVariants.{Finished, Rejected}
+use Rattle.refusals.specs.declared.limit.OwnLimit.TheVariants.{Rows}
 use Rattle.refusals.specs.declared.refusal.Refusal.{Refusal}
-use Rattle.refusals.specs.declared.refusal.Refusal.TheVariants.{Memory, RowsSpent}
+use Rattle.refusals.specs.declared.refusal.Refusal.TheVariants.{Memory, Beyond}
 use Rattle.commands.specs.declared.source_format.SourceFormat.TheVariants.{Blif}
 use Rattle.text_sections.specs.Denoted.{netlist_in, second_netlist_in, second_plan_in}
-use Rattle.text_sections.specs.Refused.{IsRefusedBy}
+use Rattle.text_sections.specs.Refused.{StopsBeyond}
 use Rattle.wide_answers.specs.WideSections.{wide_refusal}
 use Rattle.wide_answers.specs.WideText.{wide_text}
 
@@ -52,21 +53,16 @@ NeedsMoreRows rows text = IsSpent rows (netlist_in text).circuit (second_netlist
 
 -- why there is no answer where there is no verdict
 abbrev pub refusal_by : WideError → Refusal
-refusal_by (Spent rows) = RowsSpent rows
+refusal_by (Spent rows) = Beyond (Rows rows)
 refusal_by (NoMemory error) = Memory error
 
 -- why a netlist has no answer: want of memory, or that
 abbrev pub StopsJudged : ℕ → Circuit → NetlistOf → CodePlan → Refusal → Type 0
-StopsJudged rows S net plan refusal = IsRefusedBy None refusal ⊎ ((refusal ≡ RowsSpent rows) × IsSpent rows S net.circuit plan)
-
--- nothing refuses the text, but it needs more rows
-pub record PassesRows (rows : ℕ) (text : List ℕ) : Type 0 where
-  pub allowed : wide_refusal text ≡ None
-  pub spent : NeedsMoreRows rows text
+StopsJudged rows S net plan refusal = StopsBeyond (Some (Rows rows)) None (IsSpent rows S net.circuit plan) refusal
 
 -- why there is no answer to a text: what refuses it, or the number of rows
 abbrev pub StopsWide : ℕ → List ℕ → Refusal → Type 0
-StopsWide rows text refusal = IsRefusedBy (wide_refusal text) refusal ⊎ ((refusal ≡ RowsSpent rows) × PassesRows rows text)
+StopsWide rows text refusal = StopsBeyond (Some (Rows rows)) (wide_refusal text) (NeedsMoreRows rows text) refusal
 
 -- how a wide audit ends with a verdict
 abbrev pub wide_ending : WideVerdict → Ending

@@ -3,15 +3,15 @@ use Rattle.std.specs.Prelude.{ℕ, List, Option}
 use Rattle.tsc_text.specs.Bytes.{bad_line}
 use Rattle.tsc_text.specs.Lines.{lines_of}
 use Rattle.tsc_text.specs.TextLine.{TextLine}
-use Rattle.refusals.specs.declared.refusal.Refusal.{Refusal}
+use Rattle.refusals.specs.declared.text_refusal.TextRefusal.{TextRefusal}
 use Rattle.commands.specs.declared.source_format.SourceFormat.TheVariants.{Blif}
 use Rattle.text_sections.specs.Denoted.{behind_source}
 use Rattle.text_sections.specs.Refused.{byte_refusal, first_of, netlist_refusal, source_refusal}
 
 -- the lines: the network, then the netlist after it
-abbrev pub wide_lines_refusal : List TextLine → Option Refusal
+abbrev pub wide_lines_refusal : List TextLine → Option TextRefusal
 wide_lines_refusal lines = first_of (source_refusal Blif lines) (netlist_refusal lines (behind_source Blif lines))
 
 -- a text: its bytes, then its lines
-abbrev pub wide_refusal : List ℕ → Option Refusal
+abbrev pub wide_refusal : List ℕ → Option TextRefusal
 wide_refusal text = first_of (byte_refusal (bad_line text)) (wide_lines_refusal (lines_of text))

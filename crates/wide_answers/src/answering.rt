@@ -12,7 +12,7 @@ use crate::judged::{JudgedNetlist, judged_netlist};
 use crate::wide_line::wide_text;
 use commands::RowCount;
 use netlist_answers::Reply;
-use refusals::{Ending, Refusal};
+use refusals::{Ending, OwnLimit, Refusal};
 use std::alloc::{AllocError, Global};
 use tsc_io::Bytes;
 use tsc_net::Netlist;
@@ -62,7 +62,7 @@ fn refusal_by(error: WideError) -> Refusal
     ensures refusal { result ≡ refusal_by error }
 {
     match error {
-        WideError::Spent { rows } => Refusal::RowsSpent { rows },
+        WideError::Spent { rows } => Refusal::Beyond(OwnLimit::Rows(rows)),
         WideError::Memory(error) => Refusal::Memory(error),
     }
 }

@@ -1,12 +1,18 @@
 -- The two netlists, then the answer on them.
-use Rattle.std.proofs.Common.{inl}
+use Rattle.std.proofs.Common.{Some}
 use Rattle.std.proofs.lemmas.Result.{IfErr-weaker}
-use Rattle.mapping_answers.specs.MappedReply.{StopsMapped, StopsPair}
+use Rattle.refusals.specs.declared.limit.OwnLimit.TheVariants.{Pins}
+use Rattle.text_sections.specs.Denoted.{netlist_in}
+use Rattle.text_sections.proofs.StopLemmas.{stops_refused}
+use Rattle.mapping_answers.specs.MappedReply.{HasWideCover, StopsMapped, StopsPair}
+use Rattle.mapping_answers.specs.MappedSections.{mapped_in, mapped_refusal}
 use Rattle.mapping_answers.proofs.MappedLemmas.{replied, stopped}
 use Rattle.mapping_answers.proofs.answering.audit_mapped.Goals as goal
 
 pub returns-in-Err-clause-stopped : goal.returns-in-Err-clause-stopped
-returns-in-Err-clause-stopped c = inl c.in-Err.ensures.refused
+returns-in-Err-clause-stopped c =
+    let text = c.args.text.now in
+    stops_refused (Some Pins) (mapped_refusal text) (HasWideCover (netlist_in text) (mapped_in text)) c.in-Err.refusal c.in-Err.ensures.refused
 
 pub returns-clause-answers : goal.returns-clause-answers
 returns-clause-answers c =

@@ -2,7 +2,7 @@
 use Rattle.std.proofs.Common.{◌≡◌, ◌<◌, ◌≤◌, List, Option, length, sym, subst, ◌∙◌, arith}
 use Rattle.std.proofs.lemmas.Result.{IfErr-weaker, IfOk-weaker, on_ok_weaker}
 use Rattle.tsc_net.specs.declared.planned.PlannedNetlist.{PlannedNetlist}
-use Rattle.refusals.specs.declared.refusal.Refusal.{Refusal}
+use Rattle.refusals.specs.declared.text_refusal.TextRefusal.{TextRefusal}
 use Rattle.text_sections.specs.Parts.{parts_of, parts_refusal, sections_behind, sections_of, sections_refusal}
 use Rattle.text_sections.specs.Refused.{IsRefusedBy}
 use Rattle.text_sections.proofs.PartLemmas.{few_parts, refused_count, refused_parts}
@@ -31,5 +31,5 @@ returns-clause-refused c =
     let lines = c.args.lines.now in
     let few : length (sections_behind lines) ≤ 64 = omega (arith, c.if-section_count-gt-MOST_PARTS.false, c.section_count.ensures.count) in
     IfErr-weaker c.read_parts.result (IsRefusedBy (sections_refusal (sections_of lines))) (IsRefusedBy (parts_refusal lines))
-    (λ given refused. let P : Option Refusal → Type 0 = λ r. IsRefusedBy r given in subst P (sym (refused_parts lines few)) refused)
+    (λ given refused. let P : Option TextRefusal → Type 0 = λ r. IsRefusedBy r given in subst P (sym (refused_parts lines few)) refused)
     c.read_parts.ensures.refused

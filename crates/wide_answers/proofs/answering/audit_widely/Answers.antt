@@ -1,12 +1,16 @@
 -- The network and the netlist, then the answer on them.
-use Rattle.std.proofs.Common.{inl}
+use Rattle.std.proofs.Common.{Some}
 use Rattle.std.proofs.lemmas.Result.{IfErr-weaker}
-use Rattle.wide_answers.specs.WideReply.{StopsJudged, StopsWide}
+use Rattle.refusals.specs.declared.limit.OwnLimit.TheVariants.{Rows}
+use Rattle.text_sections.proofs.StopLemmas.{stops_refused}
+use Rattle.wide_answers.specs.WideReply.{NeedsMoreRows, StopsJudged, StopsWide}
+use Rattle.wide_answers.specs.WideSections.{wide_refusal}
 use Rattle.wide_answers.proofs.WideLemmas.{replied, stopped}
 use Rattle.wide_answers.proofs.answering.audit_widely.Goals as goal
 
 pub returns-in-Err-clause-stopped : goal.returns-in-Err-clause-stopped
-returns-in-Err-clause-stopped c = inl c.in-Err.ensures.refused
+returns-in-Err-clause-stopped c =
+    stops_refused (Some (Rows c.args.rows)) (wide_refusal c.args.text.now) (NeedsMoreRows c.args.rows c.args.text.now) c.in-Err.refusal c.in-Err.ensures.refused
 
 pub returns-clause-answers : goal.returns-clause-answers
 returns-clause-answers c =
