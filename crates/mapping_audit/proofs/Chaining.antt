@@ -7,7 +7,7 @@ use Rattle.std.proofs.lemmas.List.Elements.{All-head, All-tail, All-filter}
 use Rattle.tsc_net.specs.Order.{place_in, IsOrder}
 use Rattle.mapping_reading.specs.ReadMapping.{members}
 use Rattle.mapping_audit.specs.Chains.{IsChain, AreChainsFrom, AreChains}
-use Rattle.mapping_audit.proofs.Owning.{written, kept}
+use Rattle.mapping_audit.proofs.Writing.{written, kept}
 
 -- a chain stays where a gate that isn't in it gets another next one
 chain_kept : (next : List ℕ) (end g v gate : ℕ) (gates : List ℕ) → All (λ x. x ≡ g → ⊥) gates → IsChain next end gate gates → IsChain (slice_set next g v) end gate gates

@@ -9,7 +9,7 @@ use Rattle.mapping_reading.specs.ReadMapping.{first_net}
 use Rattle.mapping_reading.specs.Blocks.{Reads, AreBlocks}
 use Rattle.mapping_reading.proofs.LedGates.{reader_later}
 use Rattle.mapping_audit.specs.FindingBlocks.{AreBlocksFrom, led_driver, led_drivers}
-use Rattle.mapping_audit.proofs.Owning.{written, kept}
+use Rattle.mapping_audit.proofs.Writing.{written, kept}
 
 -- ---- one net
 

@@ -1,4 +1,4 @@
-pub mod Owning
+pub mod Writing
 pub mod Leading
 pub mod Sharing
 pub mod Chaining

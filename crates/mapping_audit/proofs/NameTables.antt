@@ -1,20 +1,62 @@
 -- Tables by names, one by one.
-use Rattle.std.proofs.Common.{◌≡◌, ℕ, ◌+◌, ◌<◌, ◌≤◌, inl, inr, false, List, [], length, take, Some, None, slice_index_or, get_or, sym, ◌∙◌, ap, arith}
-use Rattle.std.specs.Option.{option_map}
+use Rattle.std.proofs.Common.{◌≡◌, ℕ, ◌+◌, ◌<◌, ◌≤◌, suc, inl, inr, false, cond, List, [], ◌∷◌, ◌++◌, length, take, Some, None, slice_index_or, get_or, sym, ◌∙◌, ap, subst, arith}
+use Rattle.std.specs.Cmp.Lexicographic.{nat_list_eq_equiv}
+use Rattle.std.specs.Str.{bytes_eq}
+use Rattle.std.proofs.Math.Seq.{take-suc}
 use Rattle.std.proofs.lemmas.Bool.{cases_Bool}
 use Rattle.std.proofs.lemmas.List.{ext_get_or, get_or-take, length-take-le, length-map, get_or-map}
 use Rattle.fault_secure.specs.Circuit.{LatchOf, no_latch}
 use Rattle.tsc_net.specs.Named.{NamedLatch}
 use Rattle.tsc_net.specs.NetlistOf.{named_latches, names_of}
-use Rattle.tsc_net.specs.Names.{has_text, text_at, place_of_text, find_text}
-use Rattle.tsc_net.proofs.NameLemmas.{find-there, place_past}
+use Rattle.tsc_net.specs.Names.{has_text, text_at, place_of_text, find_text, IsNumbering}
+use Rattle.tsc_net.proofs.MarkLemmas.{has_text-other, place-kept, has_text-here, place-here}
+use Rattle.tsc_net.proofs.NameLemmas.{bytes_eq_same, place_within, place_past, text_at_place, find-there, find-absent}
 use Rattle.mapping_reading.specs.NamedMapping.{named_latch}
 use Rattle.mapping_reading.proofs.NamesMoved.{length_named_latches, latch_named}
 
--- ---- the place of a text, as it is looked for
+-- ---- where a text is found among the names so far
 
-pub place_none : {X : Type 0} (number : X → ℕ) (names : List (List ℕ)) (t : List ℕ) → option_map number None ≡ find_text names t → length names ≡ place_of_text names t
-place_none number names t e = elim (cases_Bool (has_text names t)) [
+-- the name of the next net isn't among them
+next_is_new : (names : List (List ℕ)) (k : ℕ) → IsNumbering names → k < length names → has_text (take k names) (text_at names k) ≡ false
+next_is_new names k numbering within = elim (cases_Bool (has_text (take k names) (text_at names k))) [
+  | inl there ↦
+      let count : length (take k names) ≡ k = length-take-le k names (omega arith) in
+      let early : place_of_text (take k names) (text_at names k) < length (take k names) = place_within (take k names) (text_at names k) there in
+      let same : text_at names (place_of_text (take k names) (text_at names k)) ≡ text_at names k
+      = sym (get_or-take k names (place_of_text (take k names) (text_at names k)) [] (omega arith)) ∙ text_at_place (take k names) (text_at names k) there in
+      let place : place_of_text (take k names) (text_at names k) ≡ k = numbering.distinct (place_of_text (take k names) (text_at names k)) k (omega arith) within same in
+      absurd (omega arith)
+  | inr absent ↦ absent
+]
+
+-- a text after a new one went last
+find_pushed : (texts : List (List ℕ)) (new t : List ℕ) → has_text texts new ≡ false → find_text (texts ++ new ∷ []) t ≡ cond (bytes_eq new t) (Some (length texts)) (find_text texts t)
+find_pushed texts new t absent = elim (cases_Bool (bytes_eq new t)) [
+  | inl same ↦
+      subst (λ (u : List ℕ). find_text (texts ++ new ∷ []) u ≡ Some (length texts)) (bytes_eq_same new t same)
+      (find-there (texts ++ new ∷ []) new (has_text-here texts new) ∙ ap Some (place-here texts new absent))
+      ∙ sym (ap (λ b. cond b (Some (length texts)) (find_text texts t)) same)
+  | inr other ↦ kept (nat_list_eq_equiv.symm t new ∙ other) ∙ sym (ap (λ b. cond b (Some (length texts)) (find_text texts t)) other)
+]
+  where
+    kept : bytes_eq t new ≡ false → find_text (texts ++ new ∷ []) t ≡ find_text texts t
+    kept other = elim (cases_Bool (has_text texts t)) [
+      | inl there ↦
+          find-there (texts ++ new ∷ []) t (has_text-other texts new t other ∙ there) ∙ ap Some (place-kept texts new t there) ∙ sym (find-there texts t there)
+      | inr none ↦ find-absent (texts ++ new ∷ []) t (has_text-other texts new t other ∙ none) ∙ sym (find-absent texts t none)
+    ]
+
+-- one net more: its name is found at its number, and any other text where it was
+pub find_more : (names : List (List ℕ)) (k : ℕ) → IsNumbering names → k < length names → (t : List ℕ)
+    → find_text (take (k + 1) names) t ≡ cond (bytes_eq (text_at names k) t) (Some k) (find_text (take k names) t)
+find_more names k numbering within t =
+    (let after : k + 1 ≡ suc k = omega arith in ap (λ n. find_text (take n names) t) after) ∙ ap (λ (texts : List (List ℕ)). find_text texts t) (take-suc names k [] within)
+    ∙ find_pushed (take k names) (text_at names k) t (next_is_new names k numbering within)
+    ∙ ap (λ n. cond (bytes_eq (text_at names k) t) (Some n) (find_text (take k names) t)) (length-take-le k names (omega arith))
+
+-- a text that isn't found has no place
+pub place_none : (names : List (List ℕ)) (t : List ℕ) → None ≡ find_text names t → length names ≡ place_of_text names t
+place_none names t e = elim (cases_Bool (has_text names t)) [
   | inl there ↦ absurd (none_some (place_of_text names t) (e ∙ find-there names t there))
   | inr absent ↦ sym (place_past names t absent)
 ]

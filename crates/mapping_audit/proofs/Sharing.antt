@@ -2,10 +2,9 @@
 use Rattle.std.proofs.Common.{◌≡◌, ℕ, zero, suc, ◌+◌, ◌-◌, ◌<◌, ◌≤◌, ◌⊎◌, inl, inr, nat_lt, if◌then◌else◌, List, [], ◌∷◌, length, slice_index, refl, sym, ◌∙◌, ap, subst, arith}
 use Rattle.std.proofs.lemmas.Bool.{cases_lt, cases_eq}
 use Rattle.std.proofs.lemmas.Grind.{common_steps}
-use Rattle.fault_secure.specs.Circuit.{Circuit, node, node_net, pin_net, nets}
-use Rattle.fault_secure.specs.Closed.{IsClosed}
+use Rattle.fault_secure.specs.Circuit.{Circuit, node}
 use Rattle.mapping_reading.specs.ReadMapping.{first_net}
-use Rattle.mapping_reading.specs.Blocks.{Reads, IsShared, IsFirstShared}
+use Rattle.mapping_reading.specs.Blocks.{Reads, IsShared}
 use Rattle.mapping_audit.specs.FindingBlocks.{other_driver, other_drivers}
 
 -- a gate of no node and of another block than `block`
@@ -146,22 +145,3 @@ module _ (G : Circuit) (owners : List ℕ) (none : ℕ) (blocks : List ℕ) wher
         where
           found_is : IsLeastOther owners none (first_net G) blocks (slice_index blocks h) (node G h).reads least found
           found_is = subst (IsLeastOther owners none (first_net G) blocks (slice_index blocks h) (node G h).reads least) (sym e) (least_other owners none (first_net G) blocks (slice_index blocks h) (node G h).reads least)
-
-  shares : (d : ℕ) (shared : IsShared G owners none blocks d) → SharesWith G owners none blocks d shared.1.0
-  shares d (free, (h, there, reads, some, other)) = record { free = free; reads = reads; some = some; other = other }
-
-  -- all readers: the first that is shared
-  pub shared_found : (count least : ℕ) → length G.nodes ≤ count → least < length G.nodes → IsLeastShared G owners none blocks count least → IsFirstShared G owners none blocks least
-  shared_found count least all there so_far = record {
-    inside = there;
-    shared = so_far.shared there;
-    first = λ e low shared. so_far.first e shared.1.0 low (let b = shared.1.1 in omega arith) (shares e shared);
-  }
-
-  -- or none is: a gate whose net is read is one
-  pub none_shared : (count least : ℕ) → IsClosed G → length G.nodes ≤ count → length G.nodes ≤ least → IsLeastShared G owners none blocks count least → (d : ℕ) → IsShared G owners none blocks d → ⊥
-  none_shared count least closed all past so_far d shared =
-      let pin : ℕ = shared.1.2.0 in
-      let net : pin_net G shared.1.0 shared.1.2.0 < nets G = closed.pins shared.1.0 shared.1.2.0 shared.1.1 shared.1.2.1 in
-      let is : pin_net G shared.1.0 shared.1.2.0 ≡ node_net G d = shared.1.2.2 in
-      so_far.first d shared.1.0 (omega arith) (let b = shared.1.1 in omega arith) (shares d shared)

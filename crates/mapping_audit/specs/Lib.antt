@@ -4,3 +4,4 @@ pub mod Wide
 pub mod Values
 pub mod Covers
 pub mod MappedAnswer
+pub mod NamesFound
