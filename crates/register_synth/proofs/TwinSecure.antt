@@ -1,0 +1,31 @@
+-- Twins that are made of a source are twins of what is kept of it, and secure for it.
+use Rattle.std.proofs.Common.{sym, subst}
+use Rattle.std.proofs.lemmas.List.{length-map}
+use Rattle.register_laws.proofs.TwinsSecure.{twins_are_secure, twins_are_fault_secure}
+use Rattle.register_laws.proofs.PartRuns.{secure_for_the_whole, fault_secure_for_the_whole}
+use Rattle.register_synth.specs.Kept.{kept_part, kept_place, kept_net}
+use Rattle.register_synth.specs.TwinNet.{own_place, copied_place, twin_plan}
+use Rattle.register_synth.specs.TwinLaws.{TwinsAreMade, MadeTwinsAreSecure}
+use Rattle.register_synth.proofs.KeptPart.{kept_is_part}
+use Rattle.register_synth.proofs.TwinMade.{IsGrouping, is_twin}
+use Rattle.register_synth.proofs.PartGroups.{grouping, groups_apart_in_part}
+
+-- they are twins of what is kept
+pub twins_are_made : TwinsAreMade
+twins_are_made S N registers covers groups rail1 rail2 closed acyclic kept are begins no_ring checker =
+    let part = kept_is_part S registers covers closed acyclic kept in
+    is_twin (kept_part S registers covers) N groups rail1 rail2 part.closed begins
+    (subst (λ n. IsGrouping n groups) (sym (length-map S.outputs (kept_net S registers covers))) (grouping S groups are))
+    part.acyclic no_ring (groups_apart_in_part S registers covers groups closed acyclic kept are) checker
+
+-- and secure for the source
+pub made_twins_are_secure : MadeTwinsAreSecure
+made_twins_are_secure S N registers covers groups rail1 rail2 closed acyclic kept are begins no_ring checker =
+    let T = kept_part S registers covers in
+    let part = kept_is_part S registers covers closed acyclic kept in
+    let twin = twins_are_made S N registers covers groups rail1 rail2 closed acyclic kept are begins no_ring checker in (
+      secure_for_the_whole (kept_part S registers covers) S N (twin_plan (kept_part S registers covers) groups rail1 rail2) (kept_place S registers covers) part acyclic
+          (twins_are_secure (kept_part S registers covers) N (twin_plan (kept_part S registers covers) groups rail1 rail2) (own_place (kept_part S registers covers)) (copied_place (kept_part S registers covers)) twin),
+      fault_secure_for_the_whole (kept_part S registers covers) S N (twin_plan (kept_part S registers covers) groups rail1 rail2) (kept_place S registers covers) part acyclic
+          (twins_are_fault_secure (kept_part S registers covers) N (twin_plan (kept_part S registers covers) groups rail1 rail2) (own_place (kept_part S registers covers)) (copied_place (kept_part S registers covers)) twin),
+    )
