@@ -9,3 +9,4 @@ pub mod TwinMade
 pub mod PartGroups
 pub mod TwinSecure
 pub mod WorkedKept
+pub mod TwinDecides

@@ -38,10 +38,10 @@ pub record IsGrouping (outputs : ℕ) (groups : List (List ℕ)) : Type 0 where
 -- ---- the nets of the copies
 
 module _ (T : Circuit) where
-  own_low : (n : ℕ) → n < T.inputs + length T.latches → own_net T n ≡ n
+  pub own_low : (n : ℕ) → n < T.inputs + length T.latches → own_net T n ≡ n
   own_low n h = ap (λ b. if b then n else n + length T.latches) (lt-ltb n (T.inputs + length T.latches) h)
 
-  own_high : (n : ℕ) → T.inputs + length T.latches ≤ n → own_net T n ≡ n + length T.latches
+  pub own_high : (n : ℕ) → T.inputs + length T.latches ≤ n → own_net T n ≡ n + length T.latches
   own_high n h = ap (λ b. if b then n else n + length T.latches) (le-ltb n (T.inputs + length T.latches) h)
 
   copied_input : (n : ℕ) → n < T.inputs → copied_net T n ≡ n
@@ -68,7 +68,7 @@ module _ (T : Circuit) where
       )
 
 module _ (T N : Circuit) (groups : List (List ℕ)) (rail1 rail2 : ℕ) (closed : IsClosed T) (begins : BeginsAsTwin T N groups rail1 rail2) where
-  latches_counted : length N.latches ≡ length T.latches + length T.latches
+  pub latches_counted : length N.latches ≡ length T.latches + length T.latches
   latches_counted =
       omega (
         arith,
@@ -79,7 +79,7 @@ module _ (T N : Circuit) (groups : List (List ℕ)) (rail1 rail2 : ℕ) (closed 
       )
 
   -- where the nets of the nodes begin
-  first_net : (j : ℕ) → node_net N j ≡ (widened T).inputs + j
+  pub first_net : (j : ℕ) → node_net N j ≡ (widened T).inputs + j
   first_net j = omega (arith, latches_counted, begins.same_inputs)
 
   covers_stand : StandAt N 0 (twin_covers T)
@@ -90,10 +90,10 @@ module _ (T N : Circuit) (groups : List (List ℕ)) (rail1 rail2 : ℕ) (closed 
       subst (λ k. StandAt N k (twin_checks T groups)) (let e : 0 + length (twin_covers T) ≡ length T.nodes + length T.nodes = omega (arith, covers_counted T) in e)
       (stand_right N 0 (twin_covers T) (twin_checks T groups) begins.nodes)
 
-  covers_fit : length T.nodes + length T.nodes ≤ length N.nodes
+  pub covers_fit : length T.nodes + length T.nodes ≤ length N.nodes
   covers_fit = omega (arith, covers_stand.fits, covers_counted T)
 
-  own_node : (j : ℕ) → j < length T.nodes → node N j ≡ renamed (own_net T) (node T j)
+  pub own_node : (j : ℕ) → j < length T.nodes → node N j ≡ renamed (own_net T) (node T j)
   own_node j h =
       ap (node N) (let e : j ≡ 0 + j = omega arith in e) ∙ covers_stand.each j (omega (arith, covers_counted T))
       ∙ get_or_append_left (map (renamed (own_net T)) T.nodes) (map (renamed (copied_net T)) T.nodes) no_node j (omega (arith, length-map T.nodes (renamed (own_net T))))
@@ -107,7 +107,7 @@ module _ (T N : Circuit) (groups : List (List ℕ)) (rail1 rail2 : ℕ) (closed 
       ∙ get_or-append-add (map (renamed (own_net T)) T.nodes) (map (renamed (copied_net T)) T.nodes) j no_node
       ∙ get_or-map (renamed (copied_net T)) T.nodes j no_node no_node h
 
-  own_latch : (l : ℕ) → l < length T.latches → latch N l ≡ renamed_latch (own_net T) (latch T l)
+  pub own_latch : (l : ℕ) → l < length T.latches → latch N l ≡ renamed_latch (own_net T) (latch T l)
   own_latch l h =
       ap (λ ls. slice_index_or ls l no_latch) begins.latches
       ∙ get_or_append_left (map (renamed_latch (own_net T)) T.latches) (map (renamed_latch (copied_net T)) T.latches) no_latch l (omega (arith, length-map T.latches (renamed_latch (own_net T))))
@@ -190,11 +190,11 @@ module _ (T N : Circuit) (groups : List (List ℕ)) (rail1 rail2 : ℕ) (closed 
   -- ---- what reaches the checks
 
   -- where the checks end
-  abbrev top : ℕ
+  abbrev pub top : ℕ
   top = length T.nodes + length T.nodes + length (concat_places groups)
 
   -- an input, a copied register, or a net of a copied cover or of a check
-  abbrev InCopy : ℕ → Type 0
+  abbrev pub InCopy : ℕ → Type 0
   InCopy n = (n < T.inputs) ⊎ (((T.inputs + length T.latches ≤ n) × (n < T.inputs + (length T.latches + length T.latches)))
       ⊎ ((node_net N (length T.nodes) ≤ n) × (n < node_net N top)))
 
@@ -219,7 +219,7 @@ module _ (T N : Circuit) (groups : List (List ℕ)) (rail1 rail2 : ℕ) (closed 
         (λ i h. output_in (slice_index_or groups i []) (grouping.each_within i))
 
     -- what a node of the copy or of a check reads is of these
-    node_reads : (j pin : ℕ) → length T.nodes ≤ j → j < top → pin < length (node N j).reads → InCopy (pin_net N j pin)
+    pub node_reads : (j pin : ℕ) → length T.nodes ≤ j → j < top → pin < length (node N j).reads → InCopy (pin_net N j pin)
     node_reads j pin low high has = elim (cases_lt j (length T.nodes + length T.nodes)) [
       | inl copy ↦ cover (j - length T.nodes) (omega arith) (omega arith)
       | inr check ↦ checks_read (widened T) N (copied_net T) first_net InCopy (length T.nodes + length T.nodes) top node_between groups (length T.nodes + length T.nodes) (omega arith) (omega arith)
@@ -235,7 +235,7 @@ module _ (T N : Circuit) (groups : List (List ℕ)) (rail1 rail2 : ℕ) (closed 
             (copied_in (pin_net T i pin) (closed.pins i pin h there) (copied_at (pin_net T i pin)))
 
     -- what a copied register reads is of these
-    latch_reads : (l : ℕ) → length T.latches ≤ l → l < length N.latches → InCopy (next_net N l)
+    pub latch_reads : (l : ℕ) → length T.latches ≤ l → l < length N.latches → InCopy (next_net N l)
     latch_reads l low high = at (l - length T.latches) (omega arith) (omega (arith, latches_counted))
       where
         at : (i : ℕ) → l ≡ length T.latches + i → i < length T.latches → InCopy (next_net N l)
@@ -288,7 +288,7 @@ module _ (T N : Circuit) (groups : List (List ℕ)) (rail1 rail2 : ℕ) (closed 
 
     -- ---- the groups are odd where both copies are alike
 
-    has_groups : HasGroups (twin_plan T groups rail1 rail2).plan
+    pub has_groups : HasGroups (twin_plan T groups rail1 rail2).plan
     has_groups = record {
       paired = checks_paired (widened T).inputs groups (length T.nodes + length T.nodes);
       filled = grouping.filled;
@@ -296,7 +296,7 @@ module _ (T N : Circuit) (groups : List (List ℕ)) (rail1 rail2 : ℕ) (closed 
       once = grouping.once;
     }
 
-    shown_own : take (length T.outputs) N.outputs ≡ map (own_net T) T.outputs
+    pub shown_own : take (length T.outputs) N.outputs ≡ map (own_net T) T.outputs
     shown_own = ap (take (length T.outputs)) begins.outputs ∙ front (length T.outputs) (map (own_net T) T.outputs) (rail1 ∷ rail2 ∷ []) (length-map T.outputs (own_net T))
 
     front_are : front_nets N (twin_plan T groups rail1 rail2) ≡ map (own_net T) T.outputs ++ twin_check_nets T groups

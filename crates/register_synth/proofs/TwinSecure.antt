@@ -1,14 +1,16 @@
 -- Twins that are made of a source are twins of what is kept of it, and secure for it.
-use Rattle.std.proofs.Common.{sym, subst}
+use Rattle.std.proofs.Common.{◌≡◌, map, length, sym, subst, arith}
 use Rattle.std.proofs.lemmas.List.{length-map}
 use Rattle.register_laws.proofs.TwinsSecure.{twins_are_secure, twins_are_fault_secure}
 use Rattle.register_laws.proofs.PartRuns.{secure_for_the_whole, fault_secure_for_the_whole}
 use Rattle.register_synth.specs.Kept.{kept_part, kept_place, kept_net}
 use Rattle.register_synth.specs.TwinNet.{own_place, copied_place, twin_plan}
 use Rattle.register_synth.specs.TwinLaws.{TwinsAreMade, MadeTwinsAreSecure}
+use Rattle.register_synth.specs.TwinChecker.{CheckedTwinsAreSecure}
 use Rattle.register_synth.proofs.KeptPart.{kept_is_part}
 use Rattle.register_synth.proofs.TwinMade.{IsGrouping, is_twin}
 use Rattle.register_synth.proofs.PartGroups.{grouping, groups_apart_in_part}
+use Rattle.register_synth.proofs.TwinDecides.{twin_decides}
 
 -- they are twins of what is kept
 pub twins_are_made : TwinsAreMade
@@ -29,3 +31,12 @@ made_twins_are_secure S N registers covers groups rail1 rail2 closed acyclic kep
       fault_secure_for_the_whole (kept_part S registers covers) S N (twin_plan (kept_part S registers covers) groups rail1 rail2) (kept_place S registers covers) part acyclic
           (twins_are_fault_secure (kept_part S registers covers) N (twin_plan (kept_part S registers covers) groups rail1 rail2) (own_place (kept_part S registers covers)) (copied_place (kept_part S registers covers)) twin),
     )
+
+-- with the plan's checker they are secure
+pub checked_twins_are_secure : CheckedTwinsAreSecure
+checked_twins_are_secure S N registers covers groups rail1 rail2 made closed acyclic few kept are begins checker no_ring =
+    let part = kept_is_part S registers covers closed acyclic kept in
+    let count : length (map (kept_net S registers covers) S.outputs) ≡ length S.outputs = length-map S.outputs (kept_net S registers covers) in
+    made_twins_are_secure S N registers covers groups rail1 rail2 closed acyclic kept are begins no_ring
+    (twin_decides (kept_part S registers covers) N groups rail1 rail2 made part.closed begins
+    (subst (λ n. IsGrouping n groups) (sym count) (grouping S groups are)) (omega arith) checker)

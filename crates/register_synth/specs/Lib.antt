@@ -4,5 +4,6 @@ pub mod KeptLaws
 pub mod RegisterGroups
 pub mod TwinNet
 pub mod TwinLaws
+pub mod TwinChecker
 pub mod WorkedTwin
 pub mod inner

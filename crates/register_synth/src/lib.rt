@@ -12,5 +12,7 @@ mod search;
 
 pub use groups::register_groups;
 pub use kept::{KeptPlaces, kept_places};
-pub use laws::{groups_are_apart, kept_is_a_part, made_twins_are_secure, worked_twin};
+pub use laws::{
+    checked_twins_are_secure, groups_are_apart, kept_is_a_part, made_twins_are_secure, worked_twin,
+};
 pub use search::reaching_marks;
