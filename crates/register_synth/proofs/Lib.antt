@@ -10,3 +10,4 @@ pub mod PartGroups
 pub mod TwinSecure
 pub mod WorkedKept
 pub mod TwinDecides
+pub mod TwinOrder

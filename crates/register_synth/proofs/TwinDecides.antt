@@ -1,7 +1,7 @@
 -- The checker of a twin decides: the rails differ exactly where every group is odd.
-use Rattle.std.proofs.Common.{◌≡◌, ◌↔◌, ℕ, zero, suc, ◌+◌, ◌<◌, ◌≤◌, ◌⊎◌, inl, inr, Bool, List, [], ◌∷◌, map, take, drop, length, slice_index, slice_index_or, All, Contains, IsTrue, refl, sym, ap, ◌∙◌, subst, arith, length-append}
+use Rattle.std.proofs.Common.{◌≡◌, ◌↔◌, ℕ, zero, suc, ◌+◌, ◌<◌, ◌≤◌, ◌⊎◌, inl, inr, Bool, List, [], ◌∷◌, ◌++◌, map, take, drop, length, slice_index, slice_index_or, All, Contains, IsTrue, refl, sym, ap, ◌∙◌, subst, arith, length-append}
 use Rattle.std.proofs.lemmas.Bool.{cases_lt}
-use Rattle.std.proofs.lemmas.List.{get_or-map, length-map, length-drop, append-nil, drop_all}
+use Rattle.std.proofs.lemmas.List.{get_or-map, length-map, length-drop, append-nil, drop_all, get_or_at, get_or-append-add}
 use Rattle.std.proofs.lemmas.List.Elements.{All-nil, All-append, All-map, All-weaker, All-from_get_or, Contains-get_or}
 use Rattle.tsc_bits.specs.Counting.{ones, odd}
 use Rattle.tsc_cover.specs.Cover.{CoverTable, truth}
@@ -16,20 +16,21 @@ use Rattle.fault_secure.specs.Structure.{CheckerSettles}
 use Rattle.parity_code.proofs.GroupStands.{checks_within}
 use Rattle.code_checkers.specs.declared.gate.CheckGate.{CheckGate}
 use Rattle.code_checkers.specs.declared.gate.CheckGate.TheVariants as gate
-use Rattle.code_checkers.specs.Checker.{rail1 as rail1_signal, rail2 as rail2_signal}
-use Rattle.code_checkers.specs.Signal.{value}
+use Rattle.code_checkers.specs.Checker.{last_pair, rail1 as rail1_signal, rail2 as rail2_signal}
+use Rattle.code_checkers.specs.Signal.{Signal, value}
+use Rattle.code_checkers.specs.Signal.Signal.{Buf}
 use Rattle.code_checkers.specs.Gates.{ReadsBelow}
 use Rattle.code_checkers.specs.GateList.{GateList}
 use Rattle.code_checkers.specs.Nodes.{IsNodeFrom, Stands}
-use Rattle.code_checkers.specs.Block.{RailsRealise}
+use Rattle.code_checkers.specs.Block.{Realises, RailsRealise}
 use Rattle.code_checkers.proofs.Block.{rail1_value, rail2_value}
 use Rattle.code_checkers.proofs.Decides.{rails_decide}
 use Rattle.code_checkers.proofs.Realised.{rails_are_realised}
-use Rattle.register_laws.specs.RegisterPlan.{next_net, front_nets, front, IsOdd}
+use Rattle.register_laws.specs.RegisterPlan.{next_net, front_nets, front, IsOdd, IsWatchList, IsRegisterPlanOf}
 use Rattle.register_laws.specs.RegisterStructure.{IsLogic, IsNeeded, IsOfRegisterChecker, RegisterCheckerSettles, DecidesGroups}
 use Rattle.register_synth.specs.TwinNet.{own_net, copied_net, widened, twin_check_nets, twin_plan, BeginsAsTwin}
 use Rattle.register_synth.specs.TwinChecker.{opened, word_plan, twin_top, HasTwinChecker}
-use Rattle.register_synth.proofs.TwinMade.{IsGrouping, has_groups, own_low, own_high, first_net, own_node, own_latch, InCopy, node_reads, latch_reads, shown_own}
+use Rattle.register_synth.proofs.TwinMade.{IsGrouping, has_groups, own_low, own_high, first_net, own_node, own_latch, latches_counted, InCopy, node_reads, latch_reads, shown_own}
 
 module _ (N : Circuit) where
   node_same : (j : ℕ) → node_net (opened N) j ≡ node_net N j
@@ -251,3 +252,35 @@ module _ (T N : Circuit) (groups : List (List ℕ)) (rail1 rail2 : ℕ) (made : 
   -- the twin's checker decides its groups
   pub twin_decides : DecidesGroups N (twin_plan T groups rail1 rail2)
   twin_decides = record { decides = decide }
+
+  -- ---- the plan
+
+  rail_in : (s : Signal) (rail : ℕ) → Realises (opened N) (word_plan T groups rail1 rail2) (Buf s) rail → rail < nets N
+  rail_in s rail r = let a = r.1.is_node in let b = r.1.drives in omega arith
+
+  top_in : (n : ℕ) → n < node_net N (twin_top T groups) → n < nets N
+  top_in n h = omega (arith, h, covers_fit_all)
+    where
+      covers_fit_all : twin_top T groups ≤ length N.nodes
+      covers_fit_all = checker.appended.ordered
+
+  -- the plan is of the netlist
+  pub twin_planned : IsRegisterPlanOf N (twin_plan T groups rail1 rail2)
+  twin_planned = record {
+    parity = refl;
+    version = refl;
+    stateless = refl;
+    plan_of = record {
+      outputs = omega (arith, ap length begins.outputs, length-append (map (own_net T) T.outputs) (rail1 ∷ rail2 ∷ []), length-map T.outputs (own_net T));
+      rail1 = ap (λ ns. slice_index ns (length T.outputs)) begins.outputs ∙ get_or_at (map (own_net T) T.outputs) rail1 (rail2 ∷ []) 0 (length T.outputs) (length-map T.outputs (own_net T));
+      rail2 = ap (λ ns. slice_index ns (length T.outputs + 1)) begins.outputs
+          ∙ ap (λ k. slice_index (map (own_net T) T.outputs ++ rail1 ∷ rail2 ∷ []) (k + 1)) (sym (length-map T.outputs (own_net T)))
+          ∙ get_or-append-add (map (own_net T) T.outputs) (rail1 ∷ rail2 ∷ []) 1 0;
+      checks = All-from_get_or (λ n. n < nets N) (twin_check_nets T groups) 0
+          (λ i h. top_in (slice_index (twin_check_nets T groups) i)
+          (checks_within (widened T) N (copied_net T) (first_net T N groups rail1 rail2 closed begins) groups (length T.nodes + length T.nodes) grouping.filled i h).1);
+      rails = (rail_in (last_pair (word_plan T groups rail1 rail2)).first rail1 realise.first, rail_in (last_pair (word_plan T groups rail1 rail2)).second rail2 realise.second);
+      latches = sym (latches_counted T N groups rail1 rail2 closed begins);
+    };
+    watched = All-nil (IsWatchList N);
+  }

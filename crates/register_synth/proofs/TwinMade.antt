@@ -44,16 +44,16 @@ module _ (T : Circuit) where
   pub own_high : (n : ℕ) → T.inputs + length T.latches ≤ n → own_net T n ≡ n + length T.latches
   own_high n h = ap (λ b. if b then n else n + length T.latches) (le-ltb n (T.inputs + length T.latches) h)
 
-  copied_input : (n : ℕ) → n < T.inputs → copied_net T n ≡ n
+  pub copied_input : (n : ℕ) → n < T.inputs → copied_net T n ≡ n
   copied_input n h =
       ap (λ b. if b then n else (if nat_lt n (T.inputs + length T.latches) then n + length T.latches else n + length T.latches + length T.nodes)) (lt-ltb n T.inputs h)
 
-  copied_latch : (n : ℕ) → T.inputs ≤ n → n < T.inputs + length T.latches → copied_net T n ≡ n + length T.latches
+  pub copied_latch : (n : ℕ) → T.inputs ≤ n → n < T.inputs + length T.latches → copied_net T n ≡ n + length T.latches
   copied_latch n h k =
       ap (λ b. if b then n else (if nat_lt n (T.inputs + length T.latches) then n + length T.latches else n + length T.latches + length T.nodes)) (le-ltb n T.inputs h)
       ∙ ap (λ b. if b then n + length T.latches else n + length T.latches + length T.nodes) (lt-ltb n (T.inputs + length T.latches) k)
 
-  copied_node : (n : ℕ) → T.inputs + length T.latches ≤ n → copied_net T n ≡ n + length T.latches + length T.nodes
+  pub copied_node : (n : ℕ) → T.inputs + length T.latches ≤ n → copied_net T n ≡ n + length T.latches + length T.nodes
   copied_node n h =
       ap (λ b. if b then n else (if nat_lt n (T.inputs + length T.latches) then n + length T.latches else n + length T.latches + length T.nodes)) (le-ltb n T.inputs (omega arith))
       ∙ ap (λ b. if b then n + length T.latches else n + length T.latches + length T.nodes) (le-ltb n (T.inputs + length T.latches) h)
@@ -85,7 +85,7 @@ module _ (T N : Circuit) (groups : List (List ℕ)) (rail1 rail2 : ℕ) (closed 
   covers_stand : StandAt N 0 (twin_covers T)
   covers_stand = stand_left N 0 (twin_covers T) (twin_checks T groups) begins.nodes
 
-  checks_stand : StandAt N (length T.nodes + length T.nodes) (twin_checks T groups)
+  pub checks_stand : StandAt N (length T.nodes + length T.nodes) (twin_checks T groups)
   checks_stand =
       subst (λ k. StandAt N k (twin_checks T groups)) (let e : 0 + length (twin_covers T) ≡ length T.nodes + length T.nodes = omega (arith, covers_counted T) in e)
       (stand_right N 0 (twin_covers T) (twin_checks T groups) begins.nodes)
@@ -99,7 +99,7 @@ module _ (T N : Circuit) (groups : List (List ℕ)) (rail1 rail2 : ℕ) (closed 
       ∙ get_or_append_left (map (renamed (own_net T)) T.nodes) (map (renamed (copied_net T)) T.nodes) no_node j (omega (arith, length-map T.nodes (renamed (own_net T))))
       ∙ get_or-map (renamed (own_net T)) T.nodes j no_node no_node h
 
-  copied_is : (j : ℕ) → j < length T.nodes → node N (length T.nodes + j) ≡ renamed (copied_net T) (node T j)
+  pub copied_is : (j : ℕ) → j < length T.nodes → node N (length T.nodes + j) ≡ renamed (copied_net T) (node T j)
   copied_is j h =
       let at : length T.nodes + j ≡ length (map (renamed (own_net T)) T.nodes) + j = omega (arith, length-map T.nodes (renamed (own_net T))) in
       ap (node N) (let e : length T.nodes + j ≡ 0 + (length T.nodes + j) = omega arith in e) ∙ covers_stand.each (length T.nodes + j) (omega (arith, covers_counted T))

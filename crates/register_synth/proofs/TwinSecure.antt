@@ -6,11 +6,12 @@ use Rattle.register_laws.proofs.PartRuns.{secure_for_the_whole, fault_secure_for
 use Rattle.register_synth.specs.Kept.{kept_part, kept_place, kept_net}
 use Rattle.register_synth.specs.TwinNet.{own_place, copied_place, twin_plan}
 use Rattle.register_synth.specs.TwinLaws.{TwinsAreMade, MadeTwinsAreSecure}
-use Rattle.register_synth.specs.TwinChecker.{CheckedTwinsAreSecure}
+use Rattle.register_synth.specs.TwinChecker.{TwinsAreChecked}
 use Rattle.register_synth.proofs.KeptPart.{kept_is_part}
 use Rattle.register_synth.proofs.TwinMade.{IsGrouping, is_twin}
 use Rattle.register_synth.proofs.PartGroups.{grouping, groups_apart_in_part}
-use Rattle.register_synth.proofs.TwinDecides.{twin_decides}
+use Rattle.register_synth.proofs.TwinDecides.{twin_decides, twin_planned}
+use Rattle.register_synth.proofs.TwinOrder.{twin_acyclic}
 
 -- they are twins of what is kept
 pub twins_are_made : TwinsAreMade
@@ -32,11 +33,18 @@ made_twins_are_secure S N registers covers groups rail1 rail2 closed acyclic kep
           (twins_are_fault_secure (kept_part S registers covers) N (twin_plan (kept_part S registers covers) groups rail1 rail2) (own_place (kept_part S registers covers)) (copied_place (kept_part S registers covers)) twin),
     )
 
--- with the plan's checker they are secure
-pub checked_twins_are_secure : CheckedTwinsAreSecure
-checked_twins_are_secure S N registers covers groups rail1 rail2 made closed acyclic few kept are begins checker no_ring =
+-- with the plan's checker they have no ring, their plan is of them, and they are secure
+pub twins_are_checked : TwinsAreChecked
+twins_are_checked S N registers covers groups rail1 rail2 made closed acyclic few kept are begins checker =
     let part = kept_is_part S registers covers closed acyclic kept in
     let count : length (map (kept_net S registers covers) S.outputs) ≡ length S.outputs = length-map S.outputs (kept_net S registers covers) in
-    made_twins_are_secure S N registers covers groups rail1 rail2 closed acyclic kept are begins no_ring
-    (twin_decides (kept_part S registers covers) N groups rail1 rail2 made part.closed begins
-    (subst (λ n. IsGrouping n groups) (sym count) (grouping S groups are)) (omega arith) checker)
+    let apart : IsGrouping (length (map (kept_net S registers covers) S.outputs)) groups = subst (λ n. IsGrouping n groups) (sym count) (grouping S groups are) in
+    let no_ring = twin_acyclic (kept_part S registers covers) N groups rail1 rail2 part.closed begins apart part.acyclic.rank part.acyclic.ranks checker.appended in
+    let secure = made_twins_are_secure S N registers covers groups rail1 rail2 closed acyclic kept are begins no_ring
+    (twin_decides (kept_part S registers covers) N groups rail1 rail2 made part.closed begins apart (omega arith) checker) in
+    record {
+      acyclic = no_ring;
+      planned = twin_planned (kept_part S registers covers) N groups rail1 rail2 made part.closed begins apart (omega arith) checker;
+      secure = secure.0;
+      fault_secure = secure.1;
+    }

@@ -4,8 +4,10 @@ use Rattle.fault_secure.specs.Circuit.{Circuit}
 use Rattle.fault_secure.specs.Closed.{IsClosed}
 use Rattle.fault_secure.specs.Settle.{Acyclic}
 use Rattle.fault_secure.specs.CodePlan.{CodePlan, concat_places}
+use Rattle.fault_secure.specs.Segment.{IsAppended}
 use Rattle.code_checkers.specs.GateList.{GateList, IsCheckerOf}
 use Rattle.code_checkers.specs.NodesOfGates.{StandsFrom}
+use Rattle.register_laws.specs.RegisterPlan.{RegisterPlan, IsRegisterPlanOf}
 use Rattle.register_laws.specs.RegisterSecure.{IsRegisterSecure, IsRegisterFaultSecure}
 use Rattle.register_synth.specs.Kept.{AreKept, kept_part}
 use Rattle.register_synth.specs.RegisterGroups.{AreRegisterGroups}
@@ -23,15 +25,23 @@ word_plan T groups rail1 rail2 = let P = (twin_plan T groups rail1 rail2).plan i
 abbrev pub twin_top : Circuit → List (List ℕ) → ℕ
 twin_top T groups = length T.nodes + length T.nodes + length (concat_places groups)
 
--- after the checks each gate of the plan's checker stands, over the outputs and the checks
+-- after the checks each gate of the plan's checker stands, over the outputs and the checks, and each node there reads nets before its own
 pub record HasTwinChecker (T N : Circuit) (groups : List (List ℕ)) (rail1 rail2 : ℕ) (made : GateList) : Type 0 where
   pub gates : IsCheckerOf (word_plan T groups rail1 rail2) made
   pub stand : StandsFrom (opened N) (word_plan T groups rail1 rail2) (twin_top T groups) made
+  pub appended : IsAppended N (twin_top T groups) (length N.nodes)
 
--- with such a checker a twin of at most 64 outputs is secure for the source, against any one failing cell and each listed fault
-abbrev pub CheckedTwinsAreSecure : Type 0
-CheckedTwinsAreSecure = (S N : Circuit) (registers covers : List ℕ) (groups : List (List ℕ)) (rail1 rail2 : ℕ) (made : GateList) → IsClosed S → Acyclic S
+-- what a netlist keeps that begins as the twin of what is kept of a source, and has such a checker: there is no ring in it, the plan is of it, and
+-- it is secure for the source, against any one failing cell and each listed fault
+pub record IsCheckedTwin (S N : Circuit) (P : RegisterPlan) : Type 0 where
+  pub acyclic : Acyclic N
+  pub planned : IsRegisterPlanOf N P
+  pub secure : IsRegisterSecure S N P
+  pub fault_secure : IsRegisterFaultSecure S N P
+
+-- where the source has at most 64 outputs
+abbrev pub TwinsAreChecked : Type 0
+TwinsAreChecked = (S N : Circuit) (registers covers : List ℕ) (groups : List (List ℕ)) (rail1 rail2 : ℕ) (made : GateList) → IsClosed S → Acyclic S
     → length S.outputs ≤ 64 → AreKept S registers covers → AreRegisterGroups S groups → BeginsAsTwin (kept_part S registers covers) N groups rail1 rail2
-    → HasTwinChecker (kept_part S registers covers) N groups rail1 rail2 made → Acyclic N
-    → IsRegisterSecure S N (twin_plan (kept_part S registers covers) groups rail1 rail2)
-    × IsRegisterFaultSecure S N (twin_plan (kept_part S registers covers) groups rail1 rail2)
+    → HasTwinChecker (kept_part S registers covers) N groups rail1 rail2 made
+    → IsCheckedTwin S N (twin_plan (kept_part S registers covers) groups rail1 rail2)

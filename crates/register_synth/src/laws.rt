@@ -5,7 +5,7 @@ ghost use Rattle.register_synth.specs.KeptLaws.{KeptIsPart};
 ghost use Rattle.register_synth.specs.RegisterGroups.{AreRegisterGroups};
 ghost use Rattle.register_synth.specs.TwinNet.{twin_latches, twin_covers, twin_checks, twin_check_nets};
 ghost use Rattle.register_synth.specs.TwinLaws.{GroupsApartInPart, TwinsAreMade, MadeTwinsAreSecure};
-ghost use Rattle.register_synth.specs.TwinChecker.{CheckedTwinsAreSecure};
+ghost use Rattle.register_synth.specs.TwinChecker.{TwinsAreChecked};
 ghost use Rattle.register_synth.specs.WorkedTwin.{worked_source, worked_registers, worked_covers, worked_groups, worked_latches, worked_nodes};
 
 /// A law: the registers and covers of a source that some output depends on, through registers, are a part of it.
@@ -26,9 +26,9 @@ pub fn made_twins_are_secure()
 {}
 
 /// A law: with the gates of its plan's checker after the checks, such a netlist of at most 64 outputs is secure for the source, against any one
-/// failing cell and each listed fault. It must have no ring.
-pub fn checked_twins_are_secure()
-    ensures secure { CheckedTwinsAreSecure }
+/// failing cell and each listed fault. It has no ring, and the plan is of it.
+pub fn twins_are_checked()
+    ensures checked { TwinsAreChecked }
 {}
 
 /// A law: the twin of a source of two registers and three covers, worked out. All of it is kept, each of its two outputs is a group of its own,
