@@ -11,3 +11,4 @@ pub mod TwinSecure
 pub mod WorkedKept
 pub mod TwinDecides
 pub mod TwinOrder
+pub mod OneOfEach

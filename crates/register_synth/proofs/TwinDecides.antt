@@ -233,7 +233,6 @@ module _ (T N : Circuit) (groups : List (List ℕ)) (rail1 rail2 : ℕ) (made : 
 
     decide : (RailsAgree (twin_plan T groups rail1 rail2).plan v → ⊥) ↔ IsOdd N (twin_plan T groups rail1 rail2) v
     decide =
-        let w = word (opened N) (word_plan T groups rail1 rail2) v in
         let one : bit v rail1 ≡ value (word (opened N) (word_plan T groups rail1 rail2) v) (rail1_signal (word_plan T groups rail1 rail2))
         = rail1_value (opened N) (word_plan T groups rail1 rail2) realise v settles in
         let two : bit v rail2 ≡ value (word (opened N) (word_plan T groups rail1 rail2) v) (rail2_signal (word_plan T groups rail1 rail2))

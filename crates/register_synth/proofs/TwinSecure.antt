@@ -24,7 +24,6 @@ twins_are_made S N registers covers groups rail1 rail2 closed acyclic kept are b
 -- and secure for the source
 pub made_twins_are_secure : MadeTwinsAreSecure
 made_twins_are_secure S N registers covers groups rail1 rail2 closed acyclic kept are begins no_ring checker =
-    let T = kept_part S registers covers in
     let part = kept_is_part S registers covers closed acyclic kept in
     let twin = twins_are_made S N registers covers groups rail1 rail2 closed acyclic kept are begins no_ring checker in (
       secure_for_the_whole (kept_part S registers covers) S N (twin_plan (kept_part S registers covers) groups rail1 rail2) (kept_place S registers covers) part acyclic
@@ -33,17 +32,18 @@ made_twins_are_secure S N registers covers groups rail1 rail2 closed acyclic kep
           (twins_are_fault_secure (kept_part S registers covers) N (twin_plan (kept_part S registers covers) groups rail1 rail2) (own_place (kept_part S registers covers)) (copied_place (kept_part S registers covers)) twin),
     )
 
--- with the plan's checker they have no ring, their plan is of them, and they are secure
+-- with the plan's checker they are twins, their plan is of them, and they are secure
 pub twins_are_checked : TwinsAreChecked
 twins_are_checked S N registers covers groups rail1 rail2 made closed acyclic few kept are begins checker =
     let part = kept_is_part S registers covers closed acyclic kept in
     let count : length (map (kept_net S registers covers) S.outputs) ≡ length S.outputs = length-map S.outputs (kept_net S registers covers) in
     let apart : IsGrouping (length (map (kept_net S registers covers) S.outputs)) groups = subst (λ n. IsGrouping n groups) (sym count) (grouping S groups are) in
     let no_ring = twin_acyclic (kept_part S registers covers) N groups rail1 rail2 part.closed begins apart part.acyclic.rank part.acyclic.ranks checker.appended in
-    let secure = made_twins_are_secure S N registers covers groups rail1 rail2 closed acyclic kept are begins no_ring
-    (twin_decides (kept_part S registers covers) N groups rail1 rail2 made part.closed begins apart (omega arith) checker) in
+    let decides = twin_decides (kept_part S registers covers) N groups rail1 rail2 made part.closed begins apart (omega arith) checker in
+    let secure = made_twins_are_secure S N registers covers groups rail1 rail2 closed acyclic kept are begins no_ring decides in
     record {
-      acyclic = no_ring;
+      part = part;
+      twin = twins_are_made S N registers covers groups rail1 rail2 closed acyclic kept are begins no_ring decides;
       planned = twin_planned (kept_part S registers covers) N groups rail1 rail2 made part.closed begins apart (omega arith) checker;
       secure = secure.0;
       fault_secure = secure.1;

@@ -1,7 +1,7 @@
 //! Laws of what is kept of a source, of its groups, and of its twins.
 ghost use Rattle.std.specs.Prelude.{◌≡◌, [], ◌∷◌, ◌++◌};
 ghost use Rattle.register_synth.specs.Kept.{AreKept, kept_part};
-ghost use Rattle.register_synth.specs.KeptLaws.{KeptIsPart};
+ghost use Rattle.register_synth.specs.KeptLaws.{KeptIsPart, OneIsKept, OneGrouping};
 ghost use Rattle.register_synth.specs.RegisterGroups.{AreRegisterGroups};
 ghost use Rattle.register_synth.specs.TwinNet.{twin_latches, twin_covers, twin_checks, twin_check_nets};
 ghost use Rattle.register_synth.specs.TwinLaws.{GroupsApartInPart, TwinsAreMade, MadeTwinsAreSecure};
@@ -25,10 +25,16 @@ pub fn made_twins_are_secure()
     ensures secure { MadeTwinsAreSecure }
 {}
 
-/// A law: with the gates of its plan's checker after the checks, such a netlist of at most 64 outputs is secure for the source, against any one
-/// failing cell and each listed fault. It has no ring, and the plan is of it.
+/// A law: with the gates of its plan's checker after the checks, such a netlist of at most 64 outputs is a twin of the part, without a ring. Its
+/// plan is of it, and it is secure for the source, against any one failing cell and each listed fault.
 pub fn twins_are_checked()
     ensures checked { TwinsAreChecked }
+{}
+
+/// A law: a source has one list of kept registers, one of kept covers, and one list of groups.
+pub fn one_of_each()
+    ensures kept { OneIsKept }
+    ensures groups { OneGrouping }
 {}
 
 /// A law: the twin of a source of two registers and three covers, worked out. All of it is kept, each of its two outputs is a group of its own,
