@@ -1,0 +1,14 @@
+pub mod KeptPart
+pub mod Before
+pub mod Searched
+pub mod FoundNets
+pub mod Places
+pub mod Sharing
+pub mod CheckReads
+pub mod TwinMade
+pub mod PartGroups
+pub mod TwinSecure
+pub mod WorkedKept
+pub mod TwinDecides
+pub mod TwinOrder
+pub mod OneOfEach
