@@ -66,7 +66,7 @@ static REFUSED: [(&[u8], &str); 15] = [
     ),
     (
         b".inputs a\n.outputs q\n.latch b q re c 0\n.names a c\n1 1\n",
-        "undriven: b",
+        "a net is undriven",
     ),
 ];
 
