@@ -9,6 +9,9 @@ use tsc_text::{End, LONGEST, Lines};
 const TWO: &[u8] =
     b".model ex\n.inputs clk a b\n.outputs y z\n.latch n1 p re clk 1\n.latch p q re clk 2\n.names a q n1\n11 1\n.names p b y\n1- 1\n-1 1\n.names q z\n0 1\n.end\n";
 
+/// The name of their clock.
+const CLOCK: &[u8] = b"clk";
+
 /// Texts, and what is said of each.
 static REFUSED: [(&[u8], &str); 15] = [
     (
@@ -85,7 +88,7 @@ fn read(alloc: Global, text: &Bytes) -> Result<BlifText, BlifError> {
 /// Whether the clock is `clk`, on its rising edge.
 fn is_rising(clock: &Option<Clock>) -> bool {
     match clock {
-        Some(clock) => clock.edge == Edge::Rising && clock.control.as_slice() == b"clk",
+        Some(clock) => clock.edge == Edge::Rising && clock.control.as_slice() == CLOCK,
         None => false,
     }
 }
