@@ -186,7 +186,7 @@ module _ (answer : List ℕ) (readable : text_refusal Netlist answer ≡ None) (
   never_no reply rejected = finished_or_rejected (one.one Finished Rejected yes_text reply yes rejected).0
 
   no_limit : PassesLimit AuditMapped (answer ++ answer) → ⊥
-  no_limit wide = one.no_limit Finished yes_text yes (record { allowed = allowed; wide = wide })
+  no_limit wide = one.no_limit Finished yes_text yes wide
 
   own : IsItsOwnMapping answer
   own = record { allowed = allowed; yes = yes; never_no = never_no; no_limit = no_limit }
