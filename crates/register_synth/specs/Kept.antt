@@ -23,7 +23,8 @@ pub record AreKept (C : Circuit) (registers covers : List ℕ) : Type 0 where
   pub each_register : AreThose (IsKeptRegister C) registers
   pub each_cover : AreThose (IsKeptCover C) covers
 
--- the net that a net of C has in the part with these registers and covers: an input stands for itself
+-- the net that a net of C has in the part with these registers and covers: an input stands for itself. Of a net that is left out the number
+-- says nothing, and may be that of another net
 abbrev pub kept_net : Circuit → List ℕ → List ℕ → ℕ → ℕ
 kept_net C registers covers net =
     if nat_lt net C.inputs then net

@@ -12,10 +12,10 @@ abbrev pub KeptIsPart : Type 0
 KeptIsPart = (S : Circuit) (registers covers : List ℕ) → IsClosed S → Acyclic S → AreKept S registers covers
     → IsPart (kept_part S registers covers) S (kept_place S registers covers)
 
--- a source has one list of kept registers, and one of kept covers
+-- a circuit has at most one list of kept registers, and at most one of kept covers
 abbrev pub OneIsKept : Type 0
 OneIsKept = (C : Circuit) (registers covers others more : List ℕ) → AreKept C registers covers → AreKept C others more → (registers ≡ others) × (covers ≡ more)
 
--- and one list of groups
+-- and at most one list of groups
 abbrev pub OneGrouping : Type 0
 OneGrouping = (C : Circuit) (groups others : List (List ℕ)) → AreRegisterGroups C groups → AreRegisterGroups C others → groups ≡ others

@@ -1,4 +1,4 @@
--- The checker of a twin: the gates of its plan's checker, which stand after the checks.
+-- The checker of a twin: the pairs of its groups and no others, whose gates stand after the checks.
 use Rattle.std.specs.Prelude.{ℕ, ◌+◌, ◌≤◌, List, [], length}
 use Rattle.fault_secure.specs.Circuit.{Circuit}
 use Rattle.fault_secure.specs.Closed.{IsClosed}
@@ -19,7 +19,7 @@ use Rattle.register_synth.specs.TwinNet.{own_place, copied_place, twin_plan, Beg
 abbrev pub opened : Circuit → Circuit
 opened N = record N { inputs = N.inputs + length N.latches; latches = [] }
 
--- the plan whose checker a twin has: nothing of a next state is checked
+-- the plan whose checker a twin has: its own without latches, so that nothing of a next state is checked
 abbrev pub word_plan : Circuit → List (List ℕ) → ℕ → ℕ → CodePlan
 word_plan T groups rail1 rail2 = let P = (twin_plan T groups rail1 rail2).plan in record P { latches = 0 }
 
@@ -27,7 +27,8 @@ word_plan T groups rail1 rail2 = let P = (twin_plan T groups rail1 rail2).plan i
 abbrev pub twin_top : Circuit → List (List ℕ) → ℕ
 twin_top T groups = length T.nodes + length T.nodes + length (concat_places groups)
 
--- after the checks each gate of the plan's checker stands, over the outputs and the checks, and each node there reads nets before its own
+-- after the checks each gate of this checker stands, over the outputs and the checks, and each node there reads nets before its own. In
+-- which order the gates stand there, and whether other nodes do, is not said here
 pub record HasTwinChecker (T N : Circuit) (groups : List (List ℕ)) (rail1 rail2 : ℕ) (made : GateList) : Type 0 where
   pub gates : IsCheckerOf (word_plan T groups rail1 rail2) made
   pub stand : StandsFrom (opened N) (word_plan T groups rail1 rail2) (twin_top T groups) made
@@ -42,8 +43,8 @@ pub record IsTwinOfPart (S T N : Circuit) (P : RegisterPlan) (place own copy : P
   pub secure : IsRegisterSecure S N P
   pub fault_secure : IsRegisterFaultSecure S N P
 
--- a netlist that begins as the twin of what is kept of a source of at most 64 outputs, over the source's groups, and has such a checker, is a twin
--- of this part
+-- the source is closed, has no ring and at most 64 outputs. A netlist that begins as the twin of what is kept of it, over the source's groups,
+-- and has such a checker, is a twin of this part
 abbrev pub TwinsAreChecked : Type 0
 TwinsAreChecked = (S N : Circuit) (registers covers : List ℕ) (groups : List (List ℕ)) (rail1 rail2 : ℕ) (made : GateList) → IsClosed S → Acyclic S
     → length S.outputs ≤ 64 → AreKept S registers covers → AreRegisterGroups S groups → BeginsAsTwin (kept_part S registers covers) N groups rail1 rail2

@@ -16,13 +16,13 @@ abbrev pub AreGroupsApart : Circuit → List (List ℕ) → Type 0
 AreGroupsApart C groups = (cell group a b : ℕ) → IsCell C cell → a < b → b < length (slice_index_or groups group [])
     → Reaches C cell (slice_index C.outputs (at groups group a)) → Reaches C cell (slice_index C.outputs (at groups group b)) → ⊥
 
--- the groups of a source are apart in the part that is kept of it too
+-- the groups of a closed source without a ring are apart in the part that is kept of it too
 abbrev pub GroupsApartInPart : Type 0
 GroupsApartInPart = (S : Circuit) (registers covers : List ℕ) (groups : List (List ℕ)) → IsClosed S → Acyclic S → AreKept S registers covers
     → AreRegisterGroups S groups → AreGroupsApart (kept_part S registers covers) groups
 
--- a netlist that begins as the twin of what is kept of a source, over the source's groups, is a twin of it: where it has no ring, and
--- its checker decides
+-- a netlist that begins as the twin of what is kept of a closed source without a ring, over the source's groups, is a twin of this part:
+-- where the netlist has no ring, and its checker decides
 abbrev pub TwinsAreMade : Type 0
 TwinsAreMade = (S N : Circuit) (registers covers : List ℕ) (groups : List (List ℕ)) (rail1 rail2 : ℕ) → IsClosed S → Acyclic S
     → AreKept S registers covers → AreRegisterGroups S groups → BeginsAsTwin (kept_part S registers covers) N groups rail1 rail2 → Acyclic N

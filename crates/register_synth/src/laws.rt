@@ -8,30 +8,32 @@ ghost use Rattle.register_synth.specs.TwinLaws.{GroupsApartInPart, TwinsAreMade,
 ghost use Rattle.register_synth.specs.TwinChecker.{TwinsAreChecked};
 ghost use Rattle.register_synth.specs.WorkedTwin.{worked_source, worked_registers, worked_covers, worked_groups, worked_latches, worked_nodes};
 
-/// A law: the registers and covers of a source that some output depends on, through registers, are a part of it.
+/// A law: the registers and covers of a source that some output depends on, through registers, are a part of it. The source is closed, and has
+/// no ring.
 pub fn kept_is_a_part()
     ensures part { KeptIsPart }
 {}
 
-/// A law: no cell of the part that is kept of a source reaches two outputs of a group, at whatever steps.
+/// A law: no cell of the part that is kept of a source reaches two outputs of one of the source's groups, at whatever steps. The source is
+/// closed, and has no ring.
 pub fn groups_are_apart()
     ensures apart { GroupsApartInPart }
 {}
 
-/// A law: a netlist that begins as the twin of what is kept of a source is a twin of it, and secure for the source against any one failing
-/// cell and each listed fault. The netlist must have no ring, and its checker must decide.
+/// A law: a netlist that begins as the twin of what is kept of a source, over the source's groups, is a twin of this part. It is secure for the
+/// source against any one failing cell and each listed fault. The source is closed, neither has a ring, and the netlist's checker must decide.
 pub fn made_twins_are_secure()
     ensures twins { TwinsAreMade }
     ensures secure { MadeTwinsAreSecure }
 {}
 
-/// A law: with the gates of its plan's checker after the checks, such a netlist of at most 64 outputs is a twin of the part, without a ring. Its
-/// plan is of it, and it is secure for the source, against any one failing cell and each listed fault.
+/// A law: with the gates that check its groups after the checks, such a netlist is a twin of the part, without a ring, where the source has at
+/// most 64 outputs. Its plan is of it, and it is secure for the source, against any one failing cell and each listed fault.
 pub fn twins_are_checked()
     ensures checked { TwinsAreChecked }
 {}
 
-/// A law: a source has one list of kept registers, one of kept covers, and one list of groups.
+/// A law: a circuit has at most one list of kept registers, one of kept covers, and one list of groups.
 pub fn one_of_each()
     ensures kept { OneIsKept }
     ensures groups { OneGrouping }

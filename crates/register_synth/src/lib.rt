@@ -2,7 +2,8 @@
 //! Its main calls are `kept_places` and `register_groups`; its main type is `KeptPlaces`, the registers and covers that are kept.
 //! It stands on `register_laws` (twins, parts, what reaches what), `parity_code` (first fit, checks of groups), `tsc_net` and `fault_secure`.
 //! Its main promise: a netlist that begins as the twin of what is kept is secure for the source, where it has no ring and its checker decides.
-//! Its definitions are in `specs/`: Reaching, Kept (the part that is kept), RegisterGroups, TwinNet (the twin), KeptLaws, TwinLaws, WorkedTwin.
+//! Its definitions are in `specs/`: Reaching, Kept (the part that is kept), RegisterGroups, TwinNet and TwinChecker (the twin), KeptLaws, TwinLaws,
+//! WorkedTwin.
 #![tactic(auto)]
 
 mod groups;
