@@ -1,0 +1,4 @@
+mod OneGrade
+mod NoSilent
+mod Shown
+mod Latches

@@ -1,0 +1,40 @@
+//! The laws of grades.
+ghost use Rattle.grading_laws.specs.GradeLaws.{AlarmSecureHasNoSilent, AlarmsAreShown, CellSecureHasNoSilent, EachHasOneGrade, FaultSecureHasNoSilent, GradesAreWorkedOut, LatchPinsBeginRight, LatchPinsHoldLater, LatchStemsHold, RegisterAlarmSecureHasNoSilent, RegisterSecureHasNoSilent, VectorsAlarm};
+
+/// In a netlist without a ring each fault has exactly one grade over each list of inputs.
+pub fn each_fault_has_one_grade()
+    ensures one { EachHasOneGrade }
+{}
+
+/// The grade of two runs is the one that is worked out from their valuations, step by step.
+pub fn grades_are_worked_out()
+    ensures same { GradesAreWorkedOut }
+{}
+
+/// No listed fault is silent, over whatever inputs.
+pub fn secure_has_no_silent_fault()
+    ensures faults { FaultSecureHasNoSilent }
+    ensures cells { CellSecureHasNoSilent }
+    ensures alarms { AlarmSecureHasNoSilent }
+    ensures registers { RegisterSecureHasNoSilent }
+    ensures register_alarms { RegisterAlarmSecureHasNoSilent }
+{}
+
+/// A fault with an alarm is one that a simulation of it from the first step on shows: the rails agree at that step, and at no earlier one.
+pub fn alarms_are_shown()
+    ensures shown { AlarmsAreShown }
+{}
+
+/// Where the run of a fault-secure netlist without a fault comes, at a later step than the first, to a point that exposes a listed fault,
+/// the fault has its alarm at that step or an earlier one.
+pub fn vectors_alarm()
+    ensures alarm { VectorsAlarm }
+{}
+
+/// With the fault present at every step, a held stem of a latch has its bit from the first step on. A held pin leaves the first step as it
+/// is, and the latch has the held bit from the second on.
+pub fn latches_are_held()
+    ensures stems { LatchStemsHold }
+    ensures pins { LatchPinsHoldLater }
+    ensures first { LatchPinsBeginRight }
+{}
