@@ -2,3 +2,5 @@ mod OneGrade
 mod NoSilent
 mod Shown
 mod Latches
+mod Counts
+mod SmallGrades

@@ -1,5 +1,7 @@
 //! The laws of grades.
 ghost use Rattle.grading_laws.specs.GradeLaws.{AlarmSecureHasNoSilent, AlarmsAreShown, CellSecureHasNoSilent, EachHasOneGrade, FaultSecureHasNoSilent, GradesAreWorkedOut, LatchPinsBeginRight, LatchPinsHoldLater, LatchStemsHold, RegisterAlarmSecureHasNoSilent, RegisterSecureHasNoSilent, VectorsAlarm};
+ghost use Rattle.grading_laws.specs.Counts.{CountsAddUp, EachHasOneGrading, NoSilentIsCounted};
+ghost use Rattle.grading_laws.specs.SmallGrades.{MergedIsGraded, SmallIsGraded, ToggleIsGraded};
 
 /// In a netlist without a ring each fault has exactly one grade over each list of inputs.
 pub fn each_fault_has_one_grade()
@@ -37,4 +39,20 @@ pub fn latches_are_held()
     ensures stems { LatchStemsHold }
     ensures pins { LatchPinsHoldLater }
     ensures first { LatchPinsBeginRight }
+{}
+
+/// The listed faults of a netlist without a ring have exactly one list of grades. The three counts add up to the number of listed faults,
+/// and where no fault is silent, none is counted.
+pub fn grades_are_counted()
+    ensures one { EachHasOneGrading }
+    ensures sum { CountsAddUp }
+    ensures silent { NoSilentIsCounted }
+{}
+
+/// In small netlists the grades compute: alarms at the first step and at a later one, silent faults, and one that is unseen. The last
+/// clause has a held stem and a held pin of a latch.
+pub fn small_netlists_are_graded()
+    ensures secure { SmallIsGraded }
+    ensures insecure { MergedIsGraded }
+    ensures machine { ToggleIsGraded }
 {}

@@ -4,6 +4,6 @@
 mod laws;
 
 pub use laws::{
-    alarms_are_shown, each_fault_has_one_grade, grades_are_worked_out, latches_are_held,
-    secure_has_no_silent_fault, vectors_alarm,
+    alarms_are_shown, each_fault_has_one_grade, grades_are_counted, grades_are_worked_out,
+    latches_are_held, secure_has_no_silent_fault, small_netlists_are_graded, vectors_alarm,
 };
