@@ -1,16 +1,15 @@
 -- The grades of all listed faults, and how many of each there are.
-use Rattle.std.proofs.Common.{◌≡◌, ℕ, zero, suc, ◌+◌, ◌<◌, Bool, true, false, cond, List, [], ◌∷◌, length, map, count_by, slice_index_or, IsTrue, refl, sym, ap, subst, ◌∙◌, arith, ext_get_or, true≢false}
+use Rattle.std.proofs.Common.{◌≡◌, ℕ, suc, ◌+◌, ◌<◌, Bool, true, false, cond, List, [], ◌∷◌, length, map, count_by, slice_index_or, IsTrue, refl, sym, subst, ◌∙◌, arith, ext_get_or, true≢false}
 use Rattle.std.proofs.lemmas.List.{length-map, get_or-map, get_or_default}
 use Rattle.std.proofs.lemmas.List.Sums.{sum_by-cons}
 use Rattle.fault_secure.specs.Circuit.{Circuit}
 use Rattle.fault_secure.specs.StuckAt.{StuckAt, NoFault, is_listed}
-use Rattle.fault_secure.specs.Settle.{Acyclic}
 use Rattle.fault_secure.specs.Listed.{listed_faults}
 use Rattle.fault_secure.specs.CodePlan.{CodePlan}
 use Rattle.structure_laws.proofs.FaultList.{holds_the_listed}
 use Rattle.grading_laws.specs.Grades.{Grade, AlarmAt, SilentAt, Unseen, IsGrade}
 use Rattle.grading_laws.specs.GradeLaws.{NoneIsSilent}
-use Rattle.grading_laws.specs.Counts.{is_alarm, is_silent, is_unseen, AreGrades, EachHasOneGrading, CountsAddUp, NoSilentIsCounted}
+use Rattle.grading_laws.specs.Counts.{is_alarm, is_silent, is_unseen, EachHasOneGrading, CountsAddUp, NoSilentIsCounted}
 use Rattle.grading_laws.proofs.OneGrade.{each_has_one_grade}
 
 count_more : (p : Grade → Bool) (grade : Grade) (grades : List Grade) → count_by p (grade ∷ grades) ≡ cond (p grade) 1 0 + count_by p grades
@@ -64,8 +63,8 @@ each_has_one_grading N P xs acyclic = record {
   are = record { sized = length-map (listed_faults N) grade_at; each = graded };
   only = λ others are. ext_get_or Unseen others (map grade_at (listed_faults N)) (are.sized ∙ sym (length-map (listed_faults N) grade_at))
       (λ place low. let inside : place < length (listed_faults N) = (let sized = are.sized in omega arith) in
-          (each_has_one_grade N P (slice_index_or (listed_faults N) place NoFault) xs acyclic).only (slice_index_or others place Unseen) (are.each place inside)
-          ∙ sym (get_or-map grade_at (listed_faults N) place NoFault Unseen inside));
+      (each_has_one_grade N P (slice_index_or (listed_faults N) place NoFault) xs acyclic).only (slice_index_or others place Unseen) (are.each place inside)
+      ∙ sym (get_or-map grade_at (listed_faults N) place NoFault Unseen inside));
 }
   where
     grade_at : StuckAt → Grade

@@ -1,9 +1,9 @@
 -- Faults of latches, present at every step: a held stem acts from the first step on, a held pin from the second.
-use Rattle.std.proofs.Common.{◌≡◌, ℕ, zero, suc, ◌+◌, ◌<◌, ◌==◌, ◌&&◌, Bool, true, List, [], ◌∷◌, length, slice_index_or, refl, sym, ap, ◌∙◌, subst, eq-eqb, arith}
+use Rattle.std.proofs.Common.{◌≡◌, ℕ, zero, suc, ◌+◌, ◌<◌, ◌==◌, ◌&&◌, Bool, List, [], ◌∷◌, length, slice_index_or, refl, ap, ◌∙◌, eq-eqb, arith}
 use Rattle.std.proofs.lemmas.Bool.{cond-true}
-use Rattle.fault_secure.specs.Circuit.{Circuit, LatchOf, no_latch, latch_net, node_net, bit}
-use Rattle.fault_secure.specs.StuckAt.{StuckAt, NoFault, Stem, Pin, on_stem, on_pin, present}
-use Rattle.fault_secure.specs.Settle.{Settles, node_value}
+use Rattle.fault_secure.specs.Circuit.{Circuit, LatchOf, no_latch, latch_net, bit}
+use Rattle.fault_secure.specs.StuckAt.{StuckAt, NoFault, Stem, Pin, on_stem, on_pin}
+use Rattle.fault_secure.specs.Settle.{Settles}
 use Rattle.fault_secure.specs.Run.{init_state, next_state, latch_reads, RunsFrom}
 use Rattle.fault_secure.proofs.OneRun.{settles_once}
 use Rattle.structure_laws.proofs.FailingCell.{fault_at, value-off}

@@ -4,3 +4,4 @@ mod Shown
 mod Latches
 mod Counts
 mod SmallGrades
+mod MoreInputs

@@ -1,16 +1,15 @@
 -- What is secure has no silent fault.
-use Rattle.std.proofs.Common.{◌≡◌, ℕ, zero, suc, ◌<◌, ◌≤◌, ◌++◌, Bool, true, List, [], ◌∷◌, length, map, take, IsTrue, refl, sym, ap, ◌∙◌, inl, inr, arith}
+use Rattle.std.proofs.Common.{◌≡◌, ℕ, zero, suc, ◌<◌, ◌++◌, Bool, true, List, [], ◌∷◌, length, take, sym, ap, ◌∙◌, inl, inr, arith}
 use Rattle.std.proofs.lemmas.List.{length-map, get_or-map}
 use Rattle.fault_secure.specs.Circuit.{Circuit, bit}
-use Rattle.fault_secure.specs.StuckAt.{StuckAt, NoFault, is_listed}
-use Rattle.fault_secure.specs.Run.{init_state, next_state, Runs, HasOneRun}
-use Rattle.fault_secure.specs.CodePlan.{CodePlan, next_nets, word, RailsAgree}
+use Rattle.fault_secure.specs.StuckAt.{StuckAt, NoFault}
+use Rattle.fault_secure.specs.Run.{init_state, next_state, HasOneRun}
+use Rattle.fault_secure.specs.CodePlan.{CodePlan, next_nets, word}
 use Rattle.fault_secure.specs.Logic.{Logic}
 use Rattle.fault_secure.specs.FaultSecure.{outputs_in, at_step, states_from, StepFollows, FollowsFrom, FirstErrorShows, AlarmBy}
 use Rattle.structure_laws.proofs.FailingCell.{listed_faults_are_failing_cells}
 use Rattle.structure_laws.proofs.FirstErrors.{same_word_or_not}
 use Rattle.structure_laws.proofs.Words.{same_parts}
-use Rattle.register_laws.specs.RegisterPlan.{RegisterPlan}
 use Rattle.register_laws.specs.RegisterSecure.{shown}
 use Rattle.register_laws.proofs.MappedRegisters.{register_secure_is_alarm_secure}
 use Rattle.grading_laws.specs.Grades.{SilentAt, every_step, IsRightAt, IsGrade}

@@ -1,5 +1,5 @@
 -- Each fault has one grade, the one that is worked out.
-use Rattle.std.proofs.Common.{◌≡◌, ◌↔◌, ℕ, zero, suc, ◌<◌, ◌≤◌, if◌then◌else◌, Bool, true, false, List, [], ◌∷◌, length, map, refl, sym, ap, subst, subst₂, ◌∙◌, inl, inr, arith}
+use Rattle.std.proofs.Common.{◌≡◌, ℕ, zero, suc, ◌<◌, if◌then◌else◌, Bool, true, false, List, [], ◌∷◌, length, refl, sym, ap, subst, subst₂, ◌∙◌, inl, inr, arith}
 use Rattle.std.proofs.lemmas.Bool.{cases_Bool, cases_lt, cond-true, cond-false, true≢false}
 use Rattle.std.proofs.lemmas.List.{length-map}
 use Rattle.tsc_bits.specs.Bits.{same}
@@ -7,13 +7,13 @@ use Rattle.tsc_bits.proofs.Bools.{same_is}
 use Rattle.fault_secure.specs.Circuit.{Circuit, bit}
 use Rattle.fault_secure.specs.StuckAt.{StuckAt, NoFault, present}
 use Rattle.fault_secure.specs.Settle.{Acyclic}
-use Rattle.fault_secure.specs.Run.{init_state, next_state, RunsFrom, Runs, HasOneRun}
+use Rattle.fault_secure.specs.Run.{init_state, next_state, RunsFrom, HasOneRun}
 use Rattle.fault_secure.specs.CodePlan.{CodePlan, RailsAgree}
 use Rattle.fault_secure.specs.FaultSecure.{outputs_in, equal_bits, at_step}
 use Rattle.fault_secure.proofs.EqualBits.{same_bits, bits_same}
 use Rattle.fault_secure.proofs.OneRun.{one_run}
-use Rattle.grading_laws.specs.Grades.{Grade, AlarmAt, SilentAt, Unseen, every_step, IsRightAt, IsAlarmAt, IsSilentAt, IsUnseen, AreGraded, IsGrade, later, grade_of}
-use Rattle.grading_laws.specs.GradeLaws.{HasOneGrade, EachHasOneGrade, GradesAreWorkedOut}
+use Rattle.grading_laws.specs.Grades.{Grade, AlarmAt, SilentAt, Unseen, every_step, IsRightAt, IsAlarmAt, IsSilentAt, AreGraded, later, grade_of}
+use Rattle.grading_laws.specs.GradeLaws.{EachHasOneGrade, GradesAreWorkedOut}
 
 -- a run has one valuation per step
 pub run_sized : (N : Circuit) (f : StuckAt) (s w : List Bool) (xs us : List (List Bool)) → RunsFrom N f s w xs us → length us ≡ length xs
@@ -32,7 +32,7 @@ one_more Q n here rest (suc k) low = rest k (omega arith)
 neither_less : (a b : ℕ) → (a < b → ⊥) → (b < a → ⊥) → a ≡ b
 neither_less a b below above = elim (cases_lt a b) [
   | inl low ↦ absurd (below low)
-  | inr high ↦ elim (cases_lt b a) [ | inl low ↦ absurd (above low) | inr same ↦ omega arith ]
+  | inr high ↦ elim (cases_lt b a) [ inl low ↦ absurd (above low) | inr same ↦ omega arith ]
 ]
 
 module _ (N : Circuit) (P : CodePlan) where

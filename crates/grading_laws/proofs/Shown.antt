@@ -1,5 +1,5 @@
 -- Grades and simulations: the alarm of a grade is that of the run, and the points of test vectors give alarms.
-use Rattle.std.proofs.Common.{◌≡◌, ℕ, zero, suc, ◌+◌, ◌<◌, ◌≤◌, Bool, true, false, List, [], ◌∷◌, length, map, Some, IsTrue, refl, sym, ap, subst, ◌∙◌, inl, inr, arith}
+use Rattle.std.proofs.Common.{◌≡◌, ℕ, zero, suc, ◌+◌, ◌<◌, ◌≤◌, Bool, true, false, List, [], length, IsTrue, sym, subst, ◌∙◌, inl, inr, arith}
 use Rattle.std.proofs.lemmas.Bool.{cases_lt}
 use Rattle.std.proofs.lemmas.List.{get_or-map}
 use Rattle.fault_secure.specs.Circuit.{Circuit, bit}
@@ -41,7 +41,7 @@ module _ (M : Logic) (N : Circuit) (P : CodePlan) (f : StuckAt) (q : ℕ) (x w :
 
   -- so the grade is an alarm by then
   by_grade : (grade : Grade) → IsGrade N P f xs grade → AlarmsBy N P f xs (last + 1)
-  by_grade (AlarmAt at) h = record { at = at; in_time = elim (cases_lt (last + 1) at) [ | inl late ↦ absurd (too_late late) | inr by ↦ by ]; is_grade = h }
+  by_grade (AlarmAt at) h = record { at = at; in_time = elim (cases_lt (last + 1) at) [ inl late ↦ absurd (too_late late) | inr by ↦ by ]; is_grade = h }
     where
       too_late : last + 1 < at → ⊥
       too_late late = h.graded.alarm.first (last + 1) late (alarm_there h.faulty h.faulty_runs (λ step low. h.graded.alarm.first step (omega arith)))

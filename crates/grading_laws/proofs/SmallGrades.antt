@@ -1,5 +1,5 @@
 -- The grades of the small netlists, from runs that are written out.
-use Rattle.std.proofs.Common.{◌≡◌, ℕ, ◌<◌, Bool, true, false, List, [], ◌∷◌, length, refl, subst, arith}
+use Rattle.std.proofs.Common.{◌≡◌, ℕ, Bool, true, false, List, [], ◌∷◌, length, refl}
 use Rattle.tsc_cover.specs.Cover.{truth}
 use Rattle.tsc_cover.specs.Gates.{and_cover, buf_cover, not_cover}
 use Rattle.fault_secure.specs.Circuit.{Circuit, latch_net, node_net, nets, bit}
@@ -8,7 +8,7 @@ use Rattle.fault_secure.specs.Settle.{Settles, node_value}
 use Rattle.fault_secure.specs.Run.{Runs}
 use Rattle.fault_secure.specs.CodePlan.{CodePlan}
 use Rattle.structure_laws.specs.SmallNetlist.{small_netlist, small_plan}
-use Rattle.structure_laws.specs.Toggle.{keeps, turns, repeats, negates, straight, crossed, toggle, toggle_plan}
+use Rattle.structure_laws.specs.Toggle.{toggle, toggle_plan}
 use Rattle.structure_laws.proofs.Each.{Each, each}
 use Rattle.mapping_laws.specs.Inverters.{merged}
 use Rattle.point_laws.specs.SmallPoints.{merged_plan}

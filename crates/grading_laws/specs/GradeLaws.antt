@@ -1,10 +1,10 @@
 -- The laws of grades: their statements.
-use Rattle.std.specs.Prelude.{◌≡◌, ◌↔◌, ℕ, ◌+◌, ◌<◌, ◌≤◌, Bool, List, length, Some, IsTrue}
-use Rattle.fault_secure.specs.Circuit.{Circuit, LatchOf, latch_net, bit}
+use Rattle.std.specs.Prelude.{◌≡◌, ◌↔◌, ℕ, ◌+◌, ◌<◌, ◌≤◌, Bool, List, ◌++◌, length, Some, IsTrue}
+use Rattle.fault_secure.specs.Circuit.{Circuit, latch_net, bit}
 use Rattle.fault_secure.specs.StuckAt.{StuckAt, NoFault, Stem, Pin, is_listed}
 use Rattle.fault_secure.specs.Settle.{Acyclic}
 use Rattle.fault_secure.specs.Run.{init_state, Runs}
-use Rattle.fault_secure.specs.CodePlan.{CodePlan, IsPlanOf, RailsAgree}
+use Rattle.fault_secure.specs.CodePlan.{CodePlan, IsPlanOf}
 use Rattle.fault_secure.specs.Logic.{Logic}
 use Rattle.fault_secure.specs.FaultSecure.{state_at, states_from, at_step, IsFaultSecure}
 use Rattle.fault_secure.specs.CellSecure.{IsCellSecure}
@@ -13,7 +13,7 @@ use Rattle.point_laws.specs.Heard.{IsAlarmSecure, AllowsOneOutput}
 use Rattle.register_laws.specs.RegisterPlan.{RegisterPlan}
 use Rattle.register_laws.specs.RegisterSecure.{IsRegisterSecure}
 use Rattle.register_laws.specs.RegisterMapping.{IsRegisterAlarmSecure}
-use Rattle.grading_laws.specs.Grades.{Grade, AlarmAt, SilentAt, every_step, IsFirstAlarm, AreGraded, IsGrade, grade_of}
+use Rattle.grading_laws.specs.Grades.{Grade, AlarmAt, SilentAt, Unseen, every_step, IsFirstAlarm, AreGraded, IsGrade, grade_of}
 
 -- ---- one grade
 
@@ -31,6 +31,11 @@ EachHasOneGrade = (N : Circuit) (P : CodePlan) (f : StuckAt) (xs : List (List Bo
 abbrev pub GradesAreWorkedOut : Type 0
 GradesAreWorkedOut = (N : Circuit) (P : CodePlan) (vs us : List (List Bool)) (grade : Grade) → length us ≡ length vs
     → AreGraded N P vs us grade ↔ (grade_of N P vs us ≡ grade)
+
+-- without a ring a fault that has an alarm or is silent keeps its grade, whatever inputs follow
+abbrev pub DecidedStays : Type 0
+DecidedStays = (N : Circuit) (P : CodePlan) (f : StuckAt) (xs ys : List (List Bool)) (grade : Grade) → Acyclic N → (grade ≡ Unseen → ⊥)
+    → IsGrade N P f xs grade → IsGrade N P f (xs ++ ys) grade
 
 -- ---- what is secure has no silent fault
 

@@ -1,5 +1,5 @@
 //! The laws of grades.
-ghost use Rattle.grading_laws.specs.GradeLaws.{AlarmSecureHasNoSilent, AlarmsAreShown, CellSecureHasNoSilent, EachHasOneGrade, FaultSecureHasNoSilent, GradesAreWorkedOut, LatchPinsBeginRight, LatchPinsHoldLater, LatchStemsHold, RegisterAlarmSecureHasNoSilent, RegisterSecureHasNoSilent, VectorsAlarm};
+ghost use Rattle.grading_laws.specs.GradeLaws.{AlarmSecureHasNoSilent, AlarmsAreShown, CellSecureHasNoSilent, DecidedStays, EachHasOneGrade, FaultSecureHasNoSilent, GradesAreWorkedOut, LatchPinsBeginRight, LatchPinsHoldLater, LatchStemsHold, RegisterAlarmSecureHasNoSilent, RegisterSecureHasNoSilent, VectorsAlarm};
 ghost use Rattle.grading_laws.specs.Counts.{CountsAddUp, EachHasOneGrading, NoSilentIsCounted};
 ghost use Rattle.grading_laws.specs.SmallGrades.{MergedIsGraded, SmallIsGraded, ToggleIsGraded};
 
@@ -11,6 +11,11 @@ pub fn each_fault_has_one_grade()
 /// The grade of two runs is the one that is worked out from their valuations, step by step.
 pub fn grades_are_worked_out()
     ensures same { GradesAreWorkedOut }
+{}
+
+/// A fault that has an alarm or is silent keeps its grade, whatever inputs follow: so only those that are unseen need more steps.
+pub fn decided_faults_stay()
+    ensures stays { DecidedStays }
 {}
 
 /// No listed fault is silent, over whatever inputs.
