@@ -1,0 +1,7 @@
+mod OneGrade
+mod NoSilent
+mod Shown
+mod Latches
+mod Counts
+mod SmallGrades
+mod MoreInputs

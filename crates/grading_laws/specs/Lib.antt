@@ -1,0 +1,4 @@
+pub mod Grades
+pub mod GradeLaws
+pub mod Counts
+pub mod SmallGrades
