@@ -1,0 +1,34 @@
+-- What a question without a model says: the statements of the laws.
+use Rattle.std.specs.Prelude.{◌≡◌, ℕ, length}
+use Rattle.fault_secure.specs.declared.code.Code.TheVariants.{Parity}
+use Rattle.fault_secure.specs.Circuit.{Circuit}
+use Rattle.fault_secure.specs.Closed.{IsClosed}
+use Rattle.fault_secure.specs.Settle.{Acyclic}
+use Rattle.fault_secure.specs.CodePlan.{CodePlan, IsPlanOf, IsWellMade}
+use Rattle.fault_secure.specs.Logic.{Network}
+use Rattle.fault_secure.specs.Behaviour.{FollowsSource}
+use Rattle.point_laws.specs.Heard.{IsHeardAtPoints, IsAlarmSecure}
+use Rattle.refutations.specs.Clauses.{HaveNoModel}
+use Rattle.exact_question.specs.Question.{question}
+
+-- what is asked of: a network and a netlist with its plan under parity, of as many inputs and outputs, both without latches
+pub record IsAsked (C N : Circuit) (P : CodePlan) : Type 0 where
+  pub source_closed : IsClosed C
+  pub source_acyclic : Acyclic C
+  pub closed : IsClosed N
+  pub well_made : IsWellMade P
+  pub plan_of : IsPlanOf N P
+  pub parity : P.code ≡ Parity
+  pub inputs : N.inputs ≡ C.inputs
+  pub outputs : P.outputs ≡ length C.outputs
+  pub source_latches : length C.latches ≡ 0
+  pub latches : length N.latches ≡ 0
+
+-- where the question has no model, the netlist follows its source: at each input it has the source's outputs and its word is a codeword.
+-- And it is heard at its points: at each input its rails differ, and no failing cell makes an output wrong while the rails differ
+abbrev pub NoModelIsExact : Type 0
+NoModelIsExact = (C N : Circuit) (P : CodePlan) → IsAsked C N P → HaveNoModel (question C N P) → FollowsSource (Network C) N P × IsHeardAtPoints N P
+
+-- so it is alarm-secure
+abbrev pub NoModelIsAlarmSecure : Type 0
+NoModelIsAlarmSecure = (C N : Circuit) (P : CodePlan) → IsAsked C N P → Acyclic N → HaveNoModel (question C N P) → IsAlarmSecure (Network C) N P
