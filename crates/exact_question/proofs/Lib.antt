@@ -1,1 +1,5 @@
+pub mod Numbers
+pub mod Written
+pub mod Gates
+pub mod Rows
 pub mod Small
