@@ -2,4 +2,5 @@ pub mod Numbers
 pub mod Written
 pub mod Gates
 pub mod Rows
+pub mod Covers
 pub mod Small
