@@ -78,7 +78,7 @@ one_choice (suc j) =
     (no (chosen_by j) ∷ yes (Chosen (suc j)) ∷ []) ∷ (no (Choice (suc j)) ∷ yes (Chosen (suc j)) ∷ []) ∷ (no (Choice (suc j)) ∷ no (chosen_by j) ∷ []) ∷ []
 
 abbrev pub failing_variables : ℕ → NodeOf → List Variable
-failing_variables j n = Choice j ∷ Gate j ∷ Net Failing j ∷ spread (row_variables Failing j) (rows_of n) ++ Differs j ∷ chosen_variables j
+failing_variables j n = Choice j ∷ Gate j ∷ Net Failing j ∷ (spread (row_variables Failing j) (rows_of n) ++ Differs j ∷ chosen_variables j)
 
 -- the wrong net is the other bit where the node is chosen, and no net differs unless the node is chosen or a pin differs
 abbrev pub failing_clauses : ℕ → ℕ → NodeOf → List (List Claim)
