@@ -5,4 +5,5 @@ pub mod Rows
 pub mod Covers
 pub mod Known
 pub mod Meaning
+pub mod Nodes
 pub mod Small
