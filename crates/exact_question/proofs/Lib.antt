@@ -6,4 +6,5 @@ pub mod Covers
 pub mod Known
 pub mod Meaning
 pub mod Nodes
+pub mod Rest
 pub mod Small
