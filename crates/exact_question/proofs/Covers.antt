@@ -1,7 +1,7 @@
 -- The clauses of a cover in a copy hold where its variables have the bits of the nets, and each row's variable tells whether the row matches.
-use Rattle.std.proofs.Common.{◌≡◌, ℕ, suc, ◌+◌, ◌<◌, Bool, true, false, not, ◌&&◌, ◌||◌, if◌then◌else◌, List, [], ◌∷◌, ◌++◌, map, length, nat_eq, slice_index_or, All, Contains, refl, sym, ap, ap₂, ◌∙◌, arith}
+use Rattle.std.proofs.Common.{◌≡◌, ℕ, suc, ◌<◌, Bool, true, false, ◌&&◌, ◌||◌, if◌then◌else◌, List, [], ◌∷◌, map, length, nat_eq, slice_index_or, All, Contains, refl, sym, ap, ap₂, ◌∙◌, arith}
 use Rattle.std.specs.List.{list_any, list_all}
-use Rattle.std.proofs.lemmas.Bool.{eqb-true, ne_eqb, or_right, or_left, false≢true}
+use Rattle.std.proofs.lemmas.Bool.{ne_eqb, or_right, or_left, false≢true}
 use Rattle.std.proofs.lemmas.List.Elements.{All-nil, All-cons, All-head, All-tail, All-get_or}
 use Rattle.std.proofs.lemmas.List.Folds.{list_any_at}
 use Rattle.tsc_bits.proofs.Bools.{and-true}
@@ -11,7 +11,7 @@ use Rattle.refutations.specs.declared.literal.Literal.{Literal}
 use Rattle.refutations.specs.Clauses.{same, literal_true}
 use Rattle.exact_question.specs.Variables.{Copy, Variable, Row, spread}
 use Rattle.exact_question.specs.Rows.{rows_of}
-use Rattle.exact_question.specs.Gates.{Claim, yes, negated, holds, some_holds, and_clauses, or_clauses}
+use Rattle.exact_question.specs.Gates.{Claim, holds, some_holds, or_clauses}
 use Rattle.exact_question.specs.Question.{of_net, claim_of, row_claim, row_variables, row_clauses, some_row_clauses, cover_clauses}
 use Rattle.exact_question.proofs.Numbers.{All-spread}
 use Rattle.exact_question.proofs.Gates.{Knows, Good, good_nil, good_cons, good_append, know_one, and_good, or_good, same_true}

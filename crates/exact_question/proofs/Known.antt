@@ -1,12 +1,12 @@
 -- Each variable that a clause can name stands among the variables of the question.
-use Rattle.std.proofs.Common.{◌≡◌, ℕ, zero, suc, ◌+◌, ◌-◌, ◌<◌, ◌≤◌, ◌⊎◌, Bool, true, false, if◌then◌else◌, List, [], ◌∷◌, ◌++◌, length, nat_lt, slice_index_or, All, Contains, refl, sym, ap, subst, ◌∙◌, inl, inr, arith}
-use Rattle.std.proofs.lemmas.Bool.{ltb-true, ltb-false, cases_eq}
+use Rattle.std.proofs.Common.{◌≡◌, ℕ, zero, suc, ◌<◌, ◌⊎◌, List, [], ◌∷◌, ◌++◌, length, slice_index_or, All, Contains, sym, subst, inl, inr, arith}
+use Rattle.std.proofs.lemmas.Bool.{cases_eq}
 use Rattle.std.proofs.lemmas.List.Elements.{All-weaker, All-contains_itself, Contains-append_left, Contains-append_right, Contains-push}
-use Rattle.fault_secure.specs.Circuit.{Circuit, node, no_node, nets}
+use Rattle.fault_secure.specs.Circuit.{Circuit, node, no_node}
 use Rattle.fault_secure.specs.CodePlan.{CodePlan, members}
-use Rattle.exact_question.specs.Variables.{Copy, Source, Right, Failing, Variable, Input, Net, Row, Choice, Gate, Differs, Chosen, OutputDiffers, Odd, RailsDiffer, Unheard, spread}
+use Rattle.exact_question.specs.Variables.{Source, Right, Failing, Variable, Input, Net, Choice, Gate, Differs, Chosen, OutputDiffers, Odd, RailsDiffer, Unheard, spread}
 use Rattle.exact_question.specs.Rows.{rows_of}
-use Rattle.exact_question.specs.Question.{of_net, row_variables, node_variables, chosen_by, chosen_variables, failing_variables, group_variables, input_variables, variables}
+use Rattle.exact_question.specs.Question.{row_variables, node_variables, chosen_by, chosen_variables, failing_variables, group_variables, input_variables, variables}
 use Rattle.exact_question.proofs.Numbers.{Contains-spread, contains_first, contains_later}
 
 input_known : (n i : ℕ) → i < n → Contains (input_variables n) (Input i)

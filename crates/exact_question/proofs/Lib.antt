@@ -7,4 +7,5 @@ pub mod Known
 pub mod Meaning
 pub mod Nodes
 pub mod Rest
+pub mod Exact
 pub mod Small

@@ -1,5 +1,5 @@
 -- What the variables mean at an input: the bits of a valuation of the source, of one of the netlist, and of one in which a cell fails.
-use Rattle.std.proofs.Common.{◌≡◌, ℕ, zero, suc, ◌+◌, ◌-◌, ◌<◌, ◌≤◌, ◌⊎◌, Bool, true, false, not, cond, ◌&&◌, ◌||◌, if◌then◌else◌, List, [], ◌∷◌, ◌++◌, map, take, filter, length, nat_lt, nat_le, slice_index_or, All, Contains, refl, sym, ap, ap₂, subst, ◌∙◌, inl, inr, arith}
+use Rattle.std.proofs.Common.{◌≡◌, ℕ, zero, suc, ◌+◌, ◌-◌, ◌<◌, ◌≤◌, ◌⊎◌, Bool, true, false, cond, ◌&&◌, ◌||◌, if◌then◌else◌, List, [], ◌∷◌, map, take, filter, length, nat_lt, nat_le, slice_index_or, All, refl, sym, ap, ap₂, ◌∙◌, inl, inr, arith}
 use Rattle.std.specs.List.{list_any, list_all}
 use Rattle.std.proofs.lemmas.Bool.{ltb-true, ltb-false, leb-true, leb-false, cases_eq, or_parts, false≢true}
 use Rattle.std.proofs.lemmas.List.Elements.{All-nil, All-cons, All-head, All-tail}
@@ -12,7 +12,7 @@ use Rattle.fault_secure.specs.CodePlan.{CodePlan, members, word, bits_at}
 use Rattle.fault_secure.specs.FailingCell.{SettlesBut}
 use Rattle.fault_secure.proofs.GateLemmas.{read_values-no_fault}
 use Rattle.refutations.specs.Clauses.{literal_true}
-use Rattle.exact_question.specs.Variables.{Copy, Source, Right, Failing, Variable, Input, Net, Row, Choice, Gate, Differs, Chosen, OutputDiffers, Odd, RailsDiffer, Unheard}
+use Rattle.exact_question.specs.Variables.{Source, Right, Failing, Variable, Input, Net, Row, Choice, Gate, Differs, Chosen, OutputDiffers, Odd, RailsDiffer, Unheard}
 use Rattle.exact_question.specs.Rows.{rows_of}
 use Rattle.exact_question.specs.Gates.{yes, some_holds}
 use Rattle.exact_question.specs.Question.{of_net, differs_at, variables}

@@ -1,27 +1,27 @@
 -- The clauses of nodes hold under the meaning of the variables: those of the two copies without a fault, and those of the one with a failing cell.
-use Rattle.std.proofs.Common.{◌≡◌, ℕ, zero, suc, ◌+◌, ◌<◌, ◌≤◌, Bool, true, false, not, ◌&&◌, ◌||◌, List, [], ◌∷◌, ◌++◌, map, length, slice_index_or, All, refl, sym, ap, ap₂, ◌∙◌, inl, inr, arith}
+use Rattle.std.proofs.Common.{◌≡◌, ℕ, zero, suc, ◌+◌, ◌<◌, Bool, true, false, ◌||◌, List, [], ◌∷◌, ◌++◌, length, All, refl, sym, ap, ap₂, ◌∙◌, arith}
 use Rattle.std.specs.List.{list_any}
-use Rattle.std.proofs.lemmas.Bool.{false≢true, cases_eq}
-use Rattle.std.proofs.lemmas.List.Elements.{All-nil, All-cons, All-from_get_or}
+use Rattle.std.proofs.lemmas.Bool.{false≢true}
+use Rattle.std.proofs.lemmas.List.Elements.{All-cons, All-from_get_or}
 use Rattle.tsc_bits.specs.Counting.{differ}
 use Rattle.tsc_cover.specs.Cover.{truth}
-use Rattle.fault_secure.specs.Circuit.{Circuit, node, no_node, node_net, nets, bit}
+use Rattle.fault_secure.specs.Circuit.{Circuit, node, no_node, nets, bit}
 use Rattle.fault_secure.specs.StuckAt.{NoFault}
 use Rattle.fault_secure.specs.Closed.{IsClosed}
 use Rattle.fault_secure.specs.Settle.{Settles, node_value}
 use Rattle.fault_secure.specs.CodePlan.{CodePlan}
 use Rattle.fault_secure.specs.FailingCell.{SettlesBut}
 use Rattle.refutations.specs.Clauses.{same}
-use Rattle.exact_question.specs.Variables.{Source, Right, Failing, Variable, Net, Choice, Gate, Differs, Chosen, spread}
-use Rattle.exact_question.specs.Gates.{Claim, yes, no, holds, some_holds, xor_clauses}
+use Rattle.exact_question.specs.Variables.{Source, Right, Failing, Net, Choice, Gate, Differs, Chosen, spread}
+use Rattle.exact_question.specs.Gates.{Claim, yes, no, some_holds, xor_clauses}
 use Rattle.exact_question.specs.Question.{chosen_by, one_choice, differs_at, cover_clauses, node_clauses, failing_clauses, variables}
 use Rattle.exact_question.specs.Laws.{IsAsked}
 use Rattle.exact_question.proofs.Numbers.{All-spread}
 use Rattle.exact_question.proofs.Written.{IsGood}
-use Rattle.exact_question.proofs.Gates.{Knows, Good, good_nil, good_cons, good_append, know_two, xor_good, same_true, same_false}
+use Rattle.exact_question.proofs.Gates.{Knows, Good, good_nil, good_cons, good_append, know_two, xor_good, same_true}
 use Rattle.exact_question.proofs.Covers.{cover_good}
 use Rattle.exact_question.proofs.Known.{source_net, right_net, wrong_known, gate_known, choice_known, differs_known, chosen_known, source_rows, right_rows, failing_rows}
-use Rattle.exact_question.proofs.Meaning.{meaning, choice, chosen, value_is, m, source_known, source_means, right_known, right_means, failing_known, failing_means, differs_are_known, differs_means, none_differs, choice_is_cell, chosen_is_cell}
+use Rattle.exact_question.proofs.Meaning.{meaning, choice, chosen, value_is, source_known, source_means, right_known, right_means, failing_known, failing_means, differs_are_known, differs_means, none_differs, choice_is_cell, chosen_is_cell}
 
 -- the pins of a node of a closed circuit read its nets
 pub reads_within : (C : Circuit) → IsClosed C → (j : ℕ) → j < length C.nodes → All (λ net. net < nets C) (node C j).reads

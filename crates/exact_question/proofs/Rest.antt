@@ -1,5 +1,5 @@
 -- The clauses of outputs, of the word, of the rails and of the unheard hold under the meaning of the variables; and what each claim of the last clause says.
-use Rattle.std.proofs.Common.{◌≡◌, ℕ, zero, suc, ◌+◌, ◌<◌, ◌≤◌, Bool, true, false, not, ◌&&◌, ◌||◌, List, [], ◌∷◌, ◌++◌, map, take, length, slice_index_or, All, refl, sym, ap, ap₂, subst, ◌∙◌, arith, take_all, length-append}
+use Rattle.std.proofs.Common.{◌≡◌, ℕ, zero, suc, ◌+◌, ◌<◌, ◌≤◌, Bool, true, false, not, ◌&&◌, ◌||◌, List, [], ◌∷◌, ◌++◌, take, length, slice_index_or, All, refl, sym, ap, ap₂, ◌∙◌, arith, take_all}
 use Rattle.std.specs.List.{list_any}
 use Rattle.std.proofs.lemmas.Bool.{or_parts, false≢true}
 use Rattle.std.proofs.lemmas.List.{get_or-map, length-map}
@@ -13,17 +13,17 @@ use Rattle.fault_secure.specs.StuckAt.{NoFault}
 use Rattle.fault_secure.specs.Settle.{Settles}
 use Rattle.fault_secure.specs.CodePlan.{CodePlan, HasGroups, monitored, word, bits_at, members, members_from, concat_places}
 use Rattle.fault_secure.specs.FailingCell.{SettlesBut}
-use Rattle.fault_secure.proofs.PlanSizes.{length-members_from, monitored_count, monitored_within}
+use Rattle.fault_secure.proofs.PlanSizes.{monitored_count, monitored_within}
 use Rattle.refutations.specs.Clauses.{same}
 use Rattle.exact_question.specs.Variables.{Source, Right, Failing, Variable, OutputDiffers, Odd, RailsDiffer, Unheard, spread}
 use Rattle.exact_question.specs.Gates.{Claim, yes, no, negated, holds, some_holds, xor_clauses}
-use Rattle.exact_question.specs.Question.{of_net, differs_at, output_clauses, word_claim, odd_claim, group_clauses, group_is_even, rails_clauses, unheard_clauses, circuit_clauses, wrong, variables}
+use Rattle.exact_question.specs.Question.{of_net, differs_at, output_clauses, word_claim, odd_claim, group_clauses, group_is_even, rails_clauses, unheard_clauses, variables}
 use Rattle.exact_question.specs.Laws.{IsAsked}
 use Rattle.exact_question.proofs.Numbers.{All-spread}
 use Rattle.exact_question.proofs.Written.{IsGood}
-use Rattle.exact_question.proofs.Gates.{Knows, Good, good_nil, good_cons, good_append, know_one, know_two, xor_good, negated_holds, same_true, same_false}
-use Rattle.exact_question.proofs.Known.{In, output_known, odd_known, rails_known, wrong_rails_known, unheard_known}
-use Rattle.exact_question.proofs.Meaning.{meaning, m, source_known, source_means, right_known, right_means, failing_known, failing_means, differs_are_known, differs_means}
+use Rattle.exact_question.proofs.Gates.{Knows, good_nil, good_cons, know_one, know_two, xor_good, negated_holds, same_true}
+use Rattle.exact_question.proofs.Known.{output_known, odd_known, rails_known, wrong_rails_known, unheard_known}
+use Rattle.exact_question.proofs.Meaning.{meaning, source_known, source_means, right_known, right_means, failing_known, failing_means, differs_are_known, differs_means}
 use Rattle.exact_question.proofs.Nodes.{AllGood}
 
 -- one more bit
@@ -79,7 +79,7 @@ module _ (C N : Circuit) (P : CodePlan) (asked : IsAsked C N P) (groups : HasGro
   right_output : (k : ℕ) → k < length C.outputs → slice_index_or N.outputs k 0 < nets N
   right_output k inside = All-get_or (λ net. net < nets N) N.outputs k 0 (omega (arith, asked.outputs, asked.plan_of.outputs)) asked.closed.outputs
 
-  output_good : (k : ℕ) → k < length C.outputs → AllGood C N P asked cell x s t z w v u source right failing (output_clauses C N k (slice_index_or C.outputs k 0))
+  pub output_good : (k : ℕ) → k < length C.outputs → AllGood C N P asked cell x s t z w v u source right failing (output_clauses C N k (slice_index_or C.outputs k 0))
   output_good k inside =
       xor_good (variables C N P) of_meaning (OutputDiffers k) (yes (of_net Source C.inputs (slice_index_or C.outputs k 0))) (yes (of_net Right N.inputs (slice_index_or N.outputs k 0)))
       (output_known C N P k inside)
@@ -149,7 +149,7 @@ module _ (C N : Circuit) (P : CodePlan) (asked : IsAsked C N P) (groups : HasGro
         ∙ ap₂ differ (sym (odd_holds k (omega arith))) (bit_at_place k below ∙ sym (word_holds (place_at k) (is_place k below))))
 
     -- the group is even exactly where its claim holds
-    even_holds : some_holds of_meaning (group_is_even N P g (first ∷ places)) ≡ false → odd bits ≡ true
+    pub even_holds : some_holds of_meaning (group_is_even N P g (first ∷ places)) ≡ false → odd bits ≡ true
     even_holds none =
         from (odd bits) (holds of_meaning (negated (odd_claim N P g first (length places))))
         (negated_holds (variables C N P) of_meaning (odd_claim N P g first (length places))
@@ -163,22 +163,22 @@ module _ (C N : Circuit) (P : CodePlan) (asked : IsAsked C N P) (groups : HasGro
     even_known : All Known (group_is_even N P g (first ∷ places))
     even_known = know_one (variables C N P) of_meaning (negated (odd_claim N P g first (length places))) (odd_is_known (length places) (omega arith))
 
-  group_within : (g : ℕ) → g < length (members P) → All IsPlace (slice_index_or (members P) g [])
+  pub group_within : (g : ℕ) → g < length (members P) → All IsPlace (slice_index_or (members P) g [])
   group_within g inside = All-get_or (All IsPlace) (members P) g [] inside places_within
 
-  group_good : (g : ℕ) (group : List ℕ) → g < length (members P) → slice_index_or (members P) g [] ≡ group → All IsPlace group
+  pub group_good : (g : ℕ) (group : List ℕ) → g < length (members P) → slice_index_or (members P) g [] ≡ group → All IsPlace group
       → AllGood C N P asked cell x s t z w v u source right failing (group_clauses N P g group)
   group_good g [] inside is within = good_nil (variables C N P) of_meaning
   group_good g (first ∷ places) inside is within =
       All-spread (IsGood (variables C N P) of_meaning) (λ k place. xor_clauses (Odd g k) (odd_claim N P g first k) (word_claim N P place)) places 0 (place_good g first places inside is within)
 
-  group_is_known : (g : ℕ) (group : List ℕ) → g < length (members P) → slice_index_or (members P) g [] ≡ group → All IsPlace group → All Known (group_is_even N P g group)
+  pub group_is_known : (g : ℕ) (group : List ℕ) → g < length (members P) → slice_index_or (members P) g [] ≡ group → All IsPlace group → All Known (group_is_even N P g group)
   group_is_known g [] inside is within = All-nil Known
   group_is_known g (first ∷ places) inside is within = even_known g first places inside is within
 
   -- ---- rails
 
-  right_rails : AllGood C N P asked cell x s t z w v u source right failing (rails_clauses Right N P)
+  pub right_rails : AllGood C N P asked cell x s t z w v u source right failing (rails_clauses Right N P)
   right_rails =
       xor_good (variables C N P) of_meaning (RailsDiffer Right) (yes (of_net Right N.inputs P.rail1)) (yes (of_net Right N.inputs P.rail2)) (rails_known C N P)
       (right_known C N P asked cell x s t z w v u source right failing P.rail1 asked.plan_of.rails.0)
@@ -187,7 +187,7 @@ module _ (C N : Circuit) (P : CodePlan) (asked : IsAsked C N P) (groups : HasGro
       (same_true (of_meaning (of_net Right N.inputs P.rail1)) ∙ right_means C N P asked cell x s t z w v u source right failing P.rail1 asked.plan_of.rails.0)
       (same_true (of_meaning (of_net Right N.inputs P.rail2)) ∙ right_means C N P asked cell x s t z w v u source right failing P.rail2 asked.plan_of.rails.1)))
 
-  failing_rails : AllGood C N P asked cell x s t z w v u source right failing (rails_clauses Failing N P)
+  pub failing_rails : AllGood C N P asked cell x s t z w v u source right failing (rails_clauses Failing N P)
   failing_rails =
       xor_good (variables C N P) of_meaning (RailsDiffer Failing) (yes (of_net Failing N.inputs P.rail1)) (yes (of_net Failing N.inputs P.rail2)) (wrong_rails_known C N P)
       (failing_known C N P asked cell x s t z w v u source right failing P.rail1 asked.plan_of.rails.0)
@@ -201,7 +201,7 @@ module _ (C N : Circuit) (P : CodePlan) (asked : IsAsked C N P) (groups : HasGro
   abbrev output_differs : List Claim
   output_differs = differs_at N.inputs (take P.outputs N.outputs)
 
-  unheard_good : AllGood C N P asked cell x s t z w v u source right failing (unheard_clauses N P)
+  pub unheard_good : AllGood C N P asked cell x s t z w v u source right failing (unheard_clauses N P)
   unheard_good =
       let rails = differ (bit u P.rail1) (bit u P.rail2) in
       let some = list_any (λ net. differ (bit v net) (bit u net)) (take P.outputs N.outputs) in

@@ -1,13 +1,13 @@
 -- What is written of literals says the same, and a meaning of the variables is a model of the numbered clauses.
-use Rattle.std.proofs.Common.{◌≡◌, ℕ, suc, ◌<◌, Bool, true, false, not, cond, ◌&&◌, ◌||◌, List, [], ◌∷◌, map, filter, nat_eq, slice_index_or, All, Contains, refl, sym, ap, ap₂, ◌∙◌, arith}
+use Rattle.std.proofs.Common.{◌≡◌, ℕ, Bool, true, false, not, cond, ◌&&◌, ◌||◌, List, [], ◌∷◌, map, filter, nat_eq, slice_index_or, All, Contains, refl, sym, ap, ap₂, ◌∙◌}
 use Rattle.std.specs.List.{list_any, list_all}
 use Rattle.std.proofs.lemmas.Bool.{eqb-true, and_parts, or_parts, or_from, false≢true}
 use Rattle.std.proofs.lemmas.List.Elements.{All-nil, All-cons, All-head, All-tail}
 use Rattle.refutations.specs.declared.literal.Literal.{Literal}
 use Rattle.refutations.specs.Clauses.{same, literal_true, clause_true, IsModel}
-use Rattle.exact_question.specs.Variables.{Variable, Unheard, number_of}
+use Rattle.exact_question.specs.Variables.{Variable, Unheard}
 use Rattle.exact_question.specs.Rows.{literal, is_literal, once, clashes, written}
-use Rattle.exact_question.specs.Gates.{Claim, holds, some_holds, numbered}
+use Rattle.exact_question.specs.Gates.{Claim, some_holds, numbered}
 use Rattle.exact_question.proofs.Numbers.{at_number}
 
 same_is : (a b : Bool) → same a b ≡ true → a ≡ b

@@ -1,5 +1,5 @@
 -- The exact question of a source and its netlist as clauses, under parity: they have no model exactly where nothing is wrong at any input.
-use Rattle.std.specs.Prelude.{ℕ, zero, suc, ◌-◌, Bool, List, [], ◌∷◌, ◌++◌, map, filter, take, length, nat_lt, nat_le, nat_eq, if◌then◌else◌, slice_index_or}
+use Rattle.std.specs.Prelude.{ℕ, zero, suc, ◌-◌, List, [], ◌∷◌, ◌++◌, map, filter, take, length, nat_lt, nat_le, nat_eq, if◌then◌else◌, slice_index_or}
 use Rattle.std.specs.List.{list_any}
 use Rattle.fault_secure.specs.Circuit.{Circuit, NodeOf}
 use Rattle.fault_secure.specs.CodePlan.{CodePlan, monitored, members}

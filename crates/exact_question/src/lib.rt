@@ -8,4 +8,4 @@
 
 mod laws;
 
-pub use laws::small_question;
+pub use laws::{no_model_is_exact, small_question};
