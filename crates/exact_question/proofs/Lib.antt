@@ -8,4 +8,5 @@ pub mod Meaning
 pub mod Nodes
 pub mod Rest
 pub mod Exact
+pub mod Back
 pub mod Small
