@@ -9,4 +9,5 @@ pub mod Nodes
 pub mod Rest
 pub mod Exact
 pub mod Back
+pub mod Valuations
 pub mod Small
