@@ -10,4 +10,5 @@ pub mod Rest
 pub mod Exact
 pub mod Back
 pub mod Valuations
+pub mod Converse
 pub mod Small

@@ -27,13 +27,13 @@ use Rattle.exact_question.proofs.Meaning.{meaning, source_known, source_means, r
 use Rattle.exact_question.proofs.Nodes.{AllGood}
 
 -- one more bit
-odd_more : (bits : List Bool) (i : ℕ) → i < length bits → odd (take (suc i) bits) ≡ differ (odd (take i bits)) (bit bits i)
+pub odd_more : (bits : List Bool) (i : ℕ) → i < length bits → odd (take (suc i) bits) ≡ differ (odd (take i bits)) (bit bits i)
 odd_more [] i inside = absurd (omega arith)
 odd_more (b ∷ bits) zero inside = differ-false b
 odd_more (b ∷ bits) (suc i) inside = ap (differ b) (odd_more bits i (omega arith)) ∙ sym (differ-assoc b (odd (take i bits)) (bit bits i))
 
 -- places of all groups and of their checks are places of the word
-members_within : (n check : ℕ) (groups : List (List ℕ)) → check + length groups ≤ n → All (λ place. place < n) (concat_places groups)
+pub members_within : (n check : ℕ) (groups : List (List ℕ)) → check + length groups ≤ n → All (λ place. place < n) (concat_places groups)
     → All (All (λ place. place < n)) (members_from check groups)
 members_within n check [] fits all = All-nil (All (λ place. place < n))
 members_within n check (group ∷ groups) fits all =

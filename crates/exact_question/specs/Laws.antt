@@ -29,6 +29,10 @@ pub record IsAsked (C N : Circuit) (P : CodePlan) : Type 0 where
 abbrev pub NoModelIsExact : Type 0
 NoModelIsExact = (C N : Circuit) (P : CodePlan) → IsAsked C N P → HaveNoModel (question C N P) → FollowsSource (Network C) N P × IsHeardAtPoints N P
 
--- so it is alarm-secure
+-- and the other way: where it follows its source and is heard at its points, the question has no model
+abbrev pub ExactHasNoModel : Type 0
+ExactHasNoModel = (C N : Circuit) (P : CodePlan) → IsAsked C N P → FollowsSource (Network C) N P → IsHeardAtPoints N P → HaveNoModel (question C N P)
+
+-- where it has no model, the netlist is alarm-secure
 abbrev pub NoModelIsAlarmSecure : Type 0
 NoModelIsAlarmSecure = (C N : Circuit) (P : CodePlan) → IsAsked C N P → Acyclic N → HaveNoModel (question C N P) → IsAlarmSecure (Network C) N P
