@@ -1,5 +1,5 @@
 -- What a model of clauses says of gates: each variable has the gate's bit.
-use Rattle.std.proofs.Common.{◌≡◌, ℕ, zero, suc, ◌+◌, ◌<◌, ◌≤◌, Bool, true, false, not, cond, ◌&&◌, ◌||◌, if◌then◌else◌, List, [], ◌∷◌, ◌++◌, map, filter, length, nat_eq, slice_index_or, All, refl, sym, ap, ap₂, ◌∙◌, arith}
+use Rattle.std.proofs.Common.{◌≡◌, ℕ, zero, suc, ◌<◌, Bool, true, false, not, cond, ◌&&◌, ◌||◌, if◌then◌else◌, List, [], ◌∷◌, map, filter, length, slice_index_or, All, refl, sym, ap, ap₂, ◌∙◌, arith}
 use Rattle.std.specs.List.{list_any, list_all}
 use Rattle.std.proofs.lemmas.Bool.{and_from, or_from, false≢true}
 use Rattle.std.proofs.lemmas.List.Elements.{All-nil, All-cons, All-head, All-tail, All-get_or}
@@ -15,7 +15,7 @@ use Rattle.exact_question.specs.Rows.{once, clashes, written, rows_of}
 use Rattle.exact_question.specs.Gates.{Claim, yes, no, negated, holds, some_holds, and_clauses, or_clauses, xor_clauses, numbered}
 use Rattle.exact_question.specs.Question.{of_net, claim_of, row_claim, row_clauses, some_row_clauses, cover_clauses}
 use Rattle.exact_question.proofs.Written.{once_true, clash_true}
-use Rattle.exact_question.proofs.Gates.{negated_holds, same_true, same_false}
+use Rattle.exact_question.proofs.Gates.{negated_holds, same_true}
 use Rattle.exact_question.proofs.Rows.{any_row, rows_within}
 use Rattle.exact_question.proofs.Covers.{row_at, is_empty, some_empty, none_empty, claim_holds, all_hold, some_row}
 

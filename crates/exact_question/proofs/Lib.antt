@@ -7,8 +7,8 @@ pub mod Known
 pub mod Meaning
 pub mod Nodes
 pub mod Rest
-pub mod Exact
+pub mod NoModel
 pub mod Back
 pub mod Valuations
-pub mod Converse
+pub mod Decides
 pub mod Small

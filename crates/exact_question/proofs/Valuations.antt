@@ -1,12 +1,11 @@
 -- The valuations that a model of the question gives: one of the source, one of the netlist, and one in which at most one cell fails.
-use Rattle.std.proofs.Common.{◌≡◌, ℕ, zero, suc, ◌+◌, ◌-◌, ◌<◌, ◌≤◌, ◌⊎◌, Bool, true, false, not, cond, ◌&&◌, ◌||◌, if◌then◌else◌, List, [], ◌∷◌, ◌++◌, map, take, filter, length, nat_lt, nat_le, slice_index_or, All, refl, sym, ap, ap₂, subst, ◌∙◌, inl, inr, arith}
+use Rattle.std.proofs.Common.{◌≡◌, ℕ, zero, suc, ◌+◌, ◌-◌, ◌<◌, ◌≤◌, ◌⊎◌, Bool, true, false, not, cond, ◌||◌, List, [], ◌∷◌, ◌++◌, map, filter, length, nat_lt, nat_le, All, refl, sym, ap, ap₂, ◌∙◌, inl, inr, arith}
 use Rattle.std.specs.List.{list_any}
-use Rattle.std.proofs.lemmas.Bool.{cond-true, cond-false, lt-ltb, le-ltb, leb-true, leb-false, or_parts, or_from, false≢true, cases_Bool, cases_lt, cases_eq}
+use Rattle.std.proofs.lemmas.Bool.{cond-true, cond-false, lt-ltb, le-ltb, leb-true, or_parts, or_from, false≢true, cases_lt, cases_eq}
 use Rattle.std.proofs.lemmas.List.Elements.{All-head, All-tail}
 use Rattle.tsc_bits.specs.Counting.{differ}
 use Rattle.tsc_bits.proofs.Lists.{all_left, all_right}
-use Rattle.tsc_cover.specs.Cover.{truth}
-use Rattle.fault_secure.specs.Circuit.{Circuit, node, no_node, node_net, latch_net, nets, bit}
+use Rattle.fault_secure.specs.Circuit.{Circuit, node, no_node, node_net, nets, bit}
 use Rattle.fault_secure.specs.StuckAt.{NoFault}
 use Rattle.fault_secure.specs.Settle.{Settles, node_value}
 use Rattle.fault_secure.specs.CodePlan.{CodePlan, members}
@@ -17,7 +16,7 @@ use Rattle.exact_question.specs.Variables.{Copy, Source, Right, Failing, Variabl
 use Rattle.exact_question.specs.Gates.{Claim, yes, no, holds, some_holds, xor_clauses}
 use Rattle.exact_question.specs.Question.{of_net, differs_at, chosen_by, one_choice, cover_clauses, node_clauses, failing_clauses, output_clauses, group_clauses, rails_clauses, unheard_clauses, circuit_clauses}
 use Rattle.exact_question.specs.Laws.{IsAsked}
-use Rattle.exact_question.proofs.Gates.{same_true, same_false}
+use Rattle.exact_question.proofs.Gates.{same_true}
 use Rattle.exact_question.proofs.Back.{AreTrue, All-at_spread, xor_back, cover_back}
 use Rattle.exact_question.proofs.Meaning.{value_is}
 use Rattle.exact_question.proofs.Nodes.{reads_within}

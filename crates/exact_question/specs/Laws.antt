@@ -1,5 +1,5 @@
--- What a question without a model says: the statements of the laws.
-use Rattle.std.specs.Prelude.{◌≡◌, length}
+-- What it says that the question has no model: the statements of the laws.
+use Rattle.std.specs.Prelude.{◌≡◌, ◌↔◌, length}
 use Rattle.fault_secure.specs.declared.code.Code.TheVariants.{Parity}
 use Rattle.fault_secure.specs.Circuit.{Circuit}
 use Rattle.fault_secure.specs.Closed.{IsClosed}
@@ -24,14 +24,10 @@ pub record IsAsked (C N : Circuit) (P : CodePlan) : Type 0 where
   pub source_latches : length C.latches ≡ 0
   pub latches : length N.latches ≡ 0
 
--- where the question has no model, the netlist follows its source: at each input it has the source's outputs and its word is a codeword.
--- And it is heard at its points: at each input its rails differ, and no failing cell makes an output wrong while the rails differ
-abbrev pub NoModelIsExact : Type 0
-NoModelIsExact = (C N : Circuit) (P : CodePlan) → IsAsked C N P → HaveNoModel (question C N P) → FollowsSource (Network C) N P × IsHeardAtPoints N P
-
--- and the other way: where it follows its source and is heard at its points, the question has no model
-abbrev pub ExactHasNoModel : Type 0
-ExactHasNoModel = (C N : Circuit) (P : CodePlan) → IsAsked C N P → FollowsSource (Network C) N P → IsHeardAtPoints N P → HaveNoModel (question C N P)
+-- the question has no model exactly where the netlist follows its source and is heard at its points: at each input it has the source's
+-- outputs, its word is a codeword, its rails differ, and no failing cell makes an output wrong while the rails differ
+abbrev pub QuestionDecides : Type 0
+QuestionDecides = (C N : Circuit) (P : CodePlan) → IsAsked C N P → HaveNoModel (question C N P) ↔ (FollowsSource (Network C) N P × IsHeardAtPoints N P)
 
 -- where it has no model, the netlist is alarm-secure
 abbrev pub NoModelIsAlarmSecure : Type 0

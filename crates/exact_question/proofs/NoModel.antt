@@ -1,4 +1,4 @@
--- A question without a model: at each input nothing is wrong, whichever one cell fails.
+-- Where the question has no model, at each input nothing is wrong, whichever one cell fails.
 use Rattle.std.proofs.Common.{◌≡◌, ℕ, suc, ◌+◌, ◌<◌, ◌==◌, Bool, true, false, not, ◌||◌, if◌then◌else◌, List, [], ◌∷◌, ◌++◌, map, take, drop, length, position, slice_index_or, All, Some, IsTrue, refl, sym, ap, subst, ◌∙◌, inl, inr, arith, length-append, length-drop, append-nil, ext_get_or, get_or-take, length-take-le}
 use Rattle.std.specs.List.{list_any}
 use Rattle.std.proofs.lemmas.Bool.{or_parts, and_cases, false≢true}
@@ -24,7 +24,7 @@ use Rattle.refutations.specs.Clauses.{HaveNoModel}
 use Rattle.exact_question.specs.Variables.{Source, Right, Failing, Variable, OutputDiffers, RailsDiffer, Unheard, spread}
 use Rattle.exact_question.specs.Gates.{Claim, yes, no, holds, some_holds}
 use Rattle.exact_question.specs.Question.{node_clauses, failing_clauses, output_clauses, group_clauses, group_is_even, rails_clauses, unheard_clauses, circuit_clauses, wrong, variables, question}
-use Rattle.exact_question.specs.Laws.{IsAsked, NoModelIsExact, NoModelIsAlarmSecure}
+use Rattle.exact_question.specs.Laws.{IsAsked, NoModelIsAlarmSecure}
 use Rattle.exact_question.proofs.Numbers.{All-spread}
 use Rattle.exact_question.proofs.Written.{IsGood, assignment, good_is_model}
 use Rattle.exact_question.proofs.Gates.{Knows, good_nil, good_cons, good_append, know_one, know_two, same_true, same_false}
@@ -231,7 +231,7 @@ module _ (C N : Circuit) (P : CodePlan) (asked : IsAsked C N P) (none : HaveNoMo
     answers = outputs_same C N P asked 0 (bit x) (bit s) (bit s) (λ _. false) (source_at x) v v (source_settles x) settled (working N 0 (bit x) (bit s) v settled) none;
   }
 
-  follows : FollowsSource (Network C) N P
+  pub follows : FollowsSource (Network C) N P
   follows = record {
     starts = one_state _;
     steps = λ q s x v traced settled. record { here = 0; next = 0; traced = one_state s; arrives = one_state _; outputs = answers_at s x v settled; next_allowed = refl };
@@ -239,7 +239,7 @@ module _ (C N : Circuit) (P : CodePlan) (asked : IsAsked C N P) (none : HaveNoMo
         is_codeword C N P asked 0 (bit x) (bit s) (bit s) (λ _. false) (source_at x) v v (source_settles x) settled (working N 0 (bit x) (bit s) v settled) none;
   }
 
-  heard : IsHeardAtPoints N P
+  pub heard : IsHeardAtPoints N P
   heard = record {
     quiet = λ q x alarm.
         rails_differ C N P asked 0 (bit x) (bit alarm.step.word) (bit alarm.step.word) (λ _. false) (source_at x) alarm.valuation alarm.valuation (source_settles x) alarm.step.settles
@@ -248,10 +248,6 @@ module _ (C N : Circuit) (P : CodePlan) (asked : IsAsked C N P) (none : HaveNoMo
         a.unheard.differ (is_heard C N P asked cell (bit x) (bit a.step.word) (bit a.failing.word) (λ _. false) (source_at x) a.right a.wrong (source_settles x) a.step.settles
         a.failing.settles none a.unheard.rails_differ);
   }
-
--- where the question has no model, the netlist follows its source and is heard at its points
-pub no_model_is_exact : NoModelIsExact
-no_model_is_exact C N P asked none = (follows C N P asked none, heard C N P asked none)
 
 pub no_model_is_alarm_secure : NoModelIsAlarmSecure
 no_model_is_alarm_secure C N P asked acyclic none =

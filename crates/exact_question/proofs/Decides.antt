@@ -1,9 +1,9 @@
--- A question with a model: something is wrong at an input. So where nothing is, it has none.
-use Rattle.std.proofs.Common.{◌≡◌, ℕ, zero, suc, ◌+◌, ◌<◌, ◌≤◌, ◌==◌, Bool, true, false, not, ◌&&◌, ◌||◌, if◌then◌else◌, List, [], ◌∷◌, ◌++◌, map, take, length, position, slice_get, slice_index_or, Option, Some, None, All, IsTrue, refl, sym, ap, ap₂, subst, ◌∙◌, inl, inr, arith, length-append, get_or-take, length-take-le, take_all}
+-- Where the question has a model, something is wrong at an input. So it has none exactly where nothing is.
+use Rattle.std.proofs.Common.{◌≡◌, ℕ, zero, suc, ◌+◌, ◌<◌, ◌≤◌, ◌==◌, Bool, true, false, not, ◌||◌, if◌then◌else◌, List, [], ◌∷◌, ◌++◌, map, take, length, position, slice_get, slice_index_or, Some, None, All, IsTrue, refl, sym, ap, ap₂, subst, ◌∙◌, inl, inr, arith, get_or-take, length-take-le, take_all}
 use Rattle.std.specs.List.{list_any}
-use Rattle.std.proofs.lemmas.Bool.{or_parts, or_from, false≢true, cases_lt}
+use Rattle.std.proofs.lemmas.Bool.{or_from, false≢true, cases_lt}
 use Rattle.std.proofs.lemmas.List.{get_or-map, length-map}
-use Rattle.std.proofs.lemmas.List.Elements.{All-head, All-tail, All-get_or, All-take, All-append, All-cons, All-nil}
+use Rattle.std.proofs.lemmas.List.Elements.{All-head, All-tail, All-get_or, All-take}
 use Rattle.std.proofs.lemmas.List.Folds.{list_any-append}
 use Rattle.tsc_bits.specs.Counting.{differ, odd}
 use Rattle.tsc_bits.proofs.Bools.{differ-false}
@@ -15,20 +15,20 @@ use Rattle.fault_secure.specs.CodePlan.{CodePlan, HasGroups, HasShape, IsChecked
 use Rattle.fault_secure.specs.FailingCell.{SettlesBut}
 use Rattle.fault_secure.specs.Exposing.{word_of_state}
 use Rattle.fault_secure.specs.FaultSecure.{equal_bits, outputs_in, state_at, StepFollows}
-use Rattle.fault_secure.specs.Logic.{Network, NetworkAnswers}
+use Rattle.fault_secure.specs.Logic.{Network}
 use Rattle.fault_secure.specs.Behaviour.{FollowsSource}
 use Rattle.fault_secure.proofs.ByRank.{length_tabulate}
 use Rattle.fault_secure.proofs.OneRun.{settles_once}
 use Rattle.fault_secure.proofs.PlanSizes.{monitored_count, monitored_within}
-use Rattle.point_laws.specs.Points.{IsStepAt, IsStepButAt}
-use Rattle.point_laws.specs.Heard.{shown_bits, IsUnheardAt, IsHeardAtPoints}
+use Rattle.point_laws.specs.Heard.{shown_bits, IsHeardAtPoints}
 use Rattle.refutations.specs.Clauses.{same, HaveNoModel}
 use Rattle.exact_question.specs.Variables.{Source, Right, Failing, Variable, Input, OutputDiffers, Odd, RailsDiffer, Unheard, spread}
 use Rattle.exact_question.specs.Gates.{Claim, yes, no, negated, holds, some_holds, xor_clauses}
 use Rattle.exact_question.specs.Question.{of_net, differs_at, output_clauses, word_claim, odd_claim, group_clauses, group_is_even, circuit_clauses, wrong, variables, question}
-use Rattle.exact_question.specs.Laws.{IsAsked, ExactHasNoModel}
+use Rattle.exact_question.specs.Laws.{IsAsked, QuestionDecides}
 use Rattle.exact_question.proofs.Gates.{negated_holds, same_true, same_false}
 use Rattle.exact_question.proofs.Back.{AreTrue, All-at_spread, xor_back, given, model_given}
+use Rattle.exact_question.proofs.NoModel as exact
 use Rattle.exact_question.proofs.Rest.{odd_more, members_within}
 use Rattle.exact_question.proofs.Valuations.{x, w, v, u, source_bit, right_bit, failing_bit, source_settles, right_settles, failing_cell, none_differs_back, inputs_alike, unheard_true, wrong_rails_true, rails_true, groups_true, outputs_true}
 
@@ -265,7 +265,7 @@ module _ (C N : Circuit) (P : CodePlan) (asked : IsAsked C N P) (follows : Follo
   no_unheard : holds m (yes Unheard) ≡ false
   no_unheard = same_true (m Unheard) ∙ both_or (m Unheard) (λ is.
       let both = if_unheard (m Unheard) (holds m (yes (RailsDiffer Failing))) (some_holds m (differs_at N.inputs output_nets)) is
-          (unheard_true C N P m all 0 [] (omega arith)) (unheard_true C N P m all 1 [] (omega arith)) in
+      (unheard_true C N P m all 0 [] (omega arith)) (unheard_true C N P m all 1 [] (omega arith)) in
       false≢true (sym (none_differs_back C N P asked m all output_nets output_within (none_unheard (sym (same_true (m (RailsDiffer Failing))) ∙ both.0))) ∙ both.1))
 
   -- ---- the last clause
@@ -287,9 +287,13 @@ module _ (C N : Circuit) (P : CodePlan) (asked : IsAsked C N P) (follows : Follo
       (or_from (holds m (no (RailsDiffer Right))) (holds m (yes Unheard) || false) rails_differ (or_from (holds m (yes Unheard)) false no_unheard refl))
 
 -- where the netlist follows its source and is heard at its points, the question has no model
-pub exact_has_no_model : ExactHasNoModel
-exact_has_no_model C N P asked follows heard = λ a model.
+no_model : (C N : Circuit) (P : CodePlan) → IsAsked C N P → FollowsSource (Network C) N P → IsHeardAtPoints N P → HaveNoModel (question C N P)
+no_model C N P asked follows heard = λ a model.
     let vs = variables C N P in
     let all = model_given a vs (circuit_clauses C N P ++ wrong C N P ∷ []) model in
     let last = (all_right (λ c. some_holds (given a vs) c ≡ true) (circuit_clauses C N P) (wrong C N P ∷ []) all) 0 [] (omega arith) in
     false≢true (sym (none_wrong C N P asked follows heard (given a vs) (all_left (λ c. some_holds (given a vs) c ≡ true) (circuit_clauses C N P) (wrong C N P ∷ []) all)) ∙ last)
+
+-- and the other way
+pub question_decides : QuestionDecides
+question_decides C N P asked = (λ none. (exact.follows C N P asked none, exact.heard C N P asked none), λ both. no_model C N P asked both.0 both.1)
