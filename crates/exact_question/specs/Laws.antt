@@ -1,4 +1,4 @@
--- What it says that the question has no model: the statements of the laws.
+-- What a question without a model says: the statements of the laws.
 use Rattle.std.specs.Prelude.{◌≡◌, ◌↔◌, length}
 use Rattle.fault_secure.specs.declared.code.Code.TheVariants.{Parity}
 use Rattle.fault_secure.specs.Circuit.{Circuit}
