@@ -11,4 +11,5 @@ pub mod NoModel
 pub mod Back
 pub mod Valuations
 pub mod Decides
+pub mod InOrder
 pub mod Small

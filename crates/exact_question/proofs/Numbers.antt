@@ -41,8 +41,13 @@ same_key a b is =
     ∙ ap (λ n. keyed b.kind n a.second) (eqb-true a.first b.first rest.0)
     ∙ ap (λ n. keyed b.kind b.first n) (eqb-true a.second b.second rest.1)
 
-key_itself : (k : Key) → is_key k k ≡ true
+-- a key is itself
+pub key_itself : (k : Key) → is_key k k ≡ true
 key_itself k = rw (eq-eqb k.kind k.kind refl, eq-eqb k.first k.first refl, eq-eqb k.second k.second refl) refl
+
+-- variables with one key are the same
+pub same_variable : (v w : Variable) → is_key (key v) (key w) ≡ true → v ≡ w
+same_variable v w is = sym (has_key v) ∙ ap of_key (same_key (key v) (key w) is) ∙ has_key w
 
 -- ---- numbers
 
@@ -52,7 +57,7 @@ at_number v [] d at = absurd (let inside = at.1 in omega arith)
 at_number v (w ∷ ws) d at = by (λ later. at_number v ws d later) (is_key (key v) (key w)) refl at
   where
     by : (Contains ws v → slice_index_or ws (number_of v ws) d ≡ v) → (b : Bool) → is_key (key v) (key w) ≡ b → Contains (w ∷ ws) v → slice_index_or (w ∷ ws) (if b then 0 else suc (number_of v ws)) d ≡ v
-    by rest true is at = sym (has_key w) ∙ ap of_key (sym (same_key (key v) (key w) is)) ∙ has_key v
+    by rest true is at = sym (same_variable v w is)
     by rest false is (zero, inside, here) = absurd (false≢true (sym is ∙ ap (λ u. is_key (key v) (key u)) here ∙ key_itself (key v)))
     by rest false is (suc k, inside, here) = rest (k, omega arith, here)
 

@@ -1,5 +1,5 @@
 -- What a question without a model says: the statements of the laws.
-use Rattle.std.specs.Prelude.{◌≡◌, ◌↔◌, length}
+use Rattle.std.specs.Prelude.{◌≡◌, ◌↔◌, ℕ, ◌<◌, length, slice_index_or}
 use Rattle.fault_secure.specs.declared.code.Code.TheVariants.{Parity}
 use Rattle.fault_secure.specs.Circuit.{Circuit}
 use Rattle.fault_secure.specs.Closed.{IsClosed}
@@ -9,7 +9,8 @@ use Rattle.fault_secure.specs.Logic.{Network}
 use Rattle.fault_secure.specs.Behaviour.{FollowsSource}
 use Rattle.point_laws.specs.Heard.{IsHeardAtPoints, IsAlarmSecure}
 use Rattle.refutations.specs.Clauses.{HaveNoModel}
-use Rattle.exact_question.specs.Question.{question}
+use Rattle.exact_question.specs.Variables.{Unheard, number_of}
+use Rattle.exact_question.specs.Question.{variables, question}
 
 -- what is asked of: a network and a netlist with its plan under parity, of as many inputs and outputs, both without latches
 pub record IsAsked (C N : Circuit) (P : CodePlan) : Type 0 where
@@ -32,3 +33,8 @@ QuestionDecides = (C N : Circuit) (P : CodePlan) → IsAsked C N P → HaveNoMod
 -- where it has no model, the netlist is alarm-secure
 abbrev pub NoModelIsAlarmSecure : Type 0
 NoModelIsAlarmSecure = (C N : Circuit) (P : CodePlan) → IsAsked C N P → Acyclic N → HaveNoModel (question C N P) → IsAlarmSecure (Network C) N P
+
+-- each variable has its place among the variables as its number: none stands twice
+abbrev pub VariablesAreInOrder : Type 0
+VariablesAreInOrder = (C N : Circuit) (P : CodePlan) (k : ℕ) → k < length (variables C N P)
+    → number_of (slice_index_or (variables C N P) k Unheard) (variables C N P) ≡ k

@@ -1,5 +1,5 @@
 //! The laws on exact questions.
-ghost use Rattle.exact_question.specs.Laws.{NoModelIsAlarmSecure, QuestionDecides};
+ghost use Rattle.exact_question.specs.Laws.{NoModelIsAlarmSecure, QuestionDecides, VariablesAreInOrder};
 ghost use Rattle.exact_question.specs.SmallQuestion.{SmallQuestion};
 
 /// A law: the question has no model exactly where the netlist follows its source and is heard at its points. At each input it then has
@@ -8,6 +8,11 @@ ghost use Rattle.exact_question.specs.SmallQuestion.{SmallQuestion};
 pub fn question_decides()
     ensures decides { QuestionDecides }
     ensures secure { NoModelIsAlarmSecure }
+{}
+
+/// A law: the number of each variable is its place in their order, so that none stands twice and there are no gaps.
+pub fn variables_are_in_order()
+    ensures ordered { VariablesAreInOrder }
 {}
 
 /// A small question, computed: one AND under duplex.

@@ -7,4 +7,4 @@
 
 mod laws;
 
-pub use laws::{question_decides, small_question};
+pub use laws::{question_decides, small_question, variables_are_in_order};
