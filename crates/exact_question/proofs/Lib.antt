@@ -1,0 +1,15 @@
+pub mod Numbers
+pub mod Written
+pub mod Gates
+pub mod Rows
+pub mod Covers
+pub mod Known
+pub mod Meaning
+pub mod Nodes
+pub mod Rest
+pub mod NoModel
+pub mod Back
+pub mod Valuations
+pub mod Decides
+pub mod InOrder
+pub mod Small
