@@ -3,11 +3,11 @@ use blif_read::{BlifError, BlifText, Clock, Edge, Kind, read_blif};
 use std::alloc::{AllocError, Global};
 use std::test::Fail;
 use tsc_io::Bytes;
-use tsc_text::{End, LONGEST, Lines};
+use tsc_text::{LONGEST, Lines, Section};
 
 /// Two registers on the rising edge of one clock, of which the second holds either bit first.
 const TWO: &[u8] =
-    b".model ex\n.inputs clk a b\n.outputs y z\n.latch n1 p re clk 1\n.latch p q re clk 2\n.names a q n1\n11 1\n.names p b y\n1- 1\n-1 1\n.names q z\n0 1\n.end\n";
+    b".model ex\n.inputs clk a b\n.outputs y z\n.latch n1 p re clk 1\n.latch p q re clk 2\n.names a q n1\n11 1\n.names p b y\n1- 1\n-1 1\n.names q z\n0 1\n";
 
 /// The name of their clock.
 const CLOCK: &[u8] = b"clk";
@@ -73,16 +73,25 @@ static REFUSED: [(&[u8], &str); 15] = [
     ),
 ];
 
-/// What the first section of a text denotes.
-#[tactic(auto, using(kiss_read::proofs::Sections::is_section))]
+/// What all lines of a text denote.
 fn read(alloc: Global, text: &Bytes) -> Result<BlifText, BlifError> {
     if text.len() > LONGEST {
         return Err(BlifError::NoPlan);
     }
     match Lines::of(alloc, text) {
-        Ok(lines) => read_blif(alloc, &lines, lines.section(0, End::Blif), Kind::Registers),
+        Ok(lines) => read_lines(alloc, &lines),
         Err(_) => Err(BlifError::NoPlan),
     }
+}
+
+/// What all lines denote.
+fn read_lines(alloc: Global, lines: &Lines) -> Result<BlifText, BlifError> {
+    let section = Section {
+        first: 0,
+        past: lines.len(),
+        next: lines.len(),
+    };
+    read_blif(alloc, lines, section, Kind::Registers)
 }
 
 /// Whether the clock is `clk`, on its rising edge.
