@@ -26,6 +26,4 @@ mod pla;
 #[cfg(test)]
 mod pool;
 #[cfg(test)]
-mod registers;
-#[cfg(test)]
 mod states;
