@@ -47,7 +47,7 @@ longer L M (And a b) h = (there L M (And a b) h.0, longer L M a h.1, longer L M 
 longer L M (Or a b) h = (there L M (Or a b) h.0, longer L M a h.1, longer L M b h.2)
 longer L M (Xor a b) h = (there L M (Xor a b) h.0, longer L M a h.1, longer L M b h.2)
 
-all-longer : (L M xs : List Signal) → All (Parts L) xs → All (Parts (L ++ M)) xs
+pub all-longer : (L M xs : List Signal) → All (Parts L) xs → All (Parts (L ++ M)) xs
 all-longer L M xs h = λ k d lt. longer L M (get_or xs k d) (h k d lt)
 
 first-new : (L M : List Signal) (s : Signal) → Contains (L ++ s ∷ M) s
@@ -57,10 +57,10 @@ second-new : (L M : List Signal) (r s : Signal) → Contains (L ++ r ∷ (s ∷ 
 second-new L M r s = Contains-append_right L (r ∷ (s ∷ M)) s (1, omega arith, refl)
 
 -- the list with at most n signals more holds each part of these
-record Holds (L : List Signal) (n : ℕ) (signals : List Signal) : Type 0 where
-  more : List Signal
-  few : length more ≤ n
-  all : All (Parts (L ++ more)) signals
+pub record Holds (L : List Signal) (n : ℕ) (signals : List Signal) : Type 0 where
+  pub more : List Signal
+  pub few : length more ≤ n
+  pub all : All (Parts (L ++ more)) signals
 
 none-more : (L signals : List Signal) → All (Parts L) signals → Holds L 0 signals
 none-more L signals h = record { more = []; few = omega arith; all = all-longer L [] signals h }
@@ -209,7 +209,7 @@ length-every true (x ∷ xs) = let rest = length-every false xs in omega (arith,
 length-every false (x ∷ xs) = let rest = length-every true xs in omega (arith, rest)
 
 -- the two signals of pairs
-abbrev sides : List Pair → List Signal
+abbrev pub sides : List Pair → List Signal
 sides [] = []
 sides (p ∷ pairs) = p.first ∷ (p.second ∷ sides pairs)
 
@@ -432,10 +432,10 @@ length-pairs P =
     one place (suc n) weight = omega arith
 
 -- the list holds the sides of pairs, and with six gates for each pair no more than `most`
-record HoldsPairs (L : List Signal) (most : ℕ) (pairs : List Pair) : Type 0 where
-  more : List Signal
-  few : length more + 6 * length pairs ≤ most
-  all : All (Parts (L ++ more)) (sides pairs)
+pub record HoldsPairs (L : List Signal) (most : ℕ) (pairs : List Pair) : Type 0 where
+  pub more : List Signal
+  pub few : length more + 6 * length pairs ≤ most
+  pub all : All (Parts (L ++ more)) (sides pairs)
 
 cell-parts : (L : List Signal) (a b : Pair) → Parts L a.first → Parts L a.second → Parts L b.first → Parts L b.second → Holds L 6 ((cell a b).first ∷ ((cell a b).second ∷ []))
 cell-parts L a b p q r s =
@@ -450,7 +450,7 @@ cell-parts L a b p q r s =
     let second : Parts (L ++ M) (Or x' y') = (at 5 (Or x' y') (omega arith) refl, (at 3 x' (omega arith) refl, w a.first p, w b.second s), (at 4 y' (omega arith) refl, w a.second q, w b.first r)) in
     record { more = M; few = omega arith; all = All-cons (Parts (L ++ M)) (Or x y) (Or x' y' ∷ []) first (All-cons (Parts (L ++ M)) (Or x' y') [] second (All-nil (Parts (L ++ M)))) }
 
-level-holds : (L : List Signal) (pairs : List Pair) → All (Parts L) (sides pairs) → HoldsPairs L (6 * length pairs) (level pairs)
+pub level-holds : (L : List Signal) (pairs : List Pair) → All (Parts L) (sides pairs) → HoldsPairs L (6 * length pairs) (level pairs)
 level-holds L [] all = record { more = []; few = omega arith; all = all-longer L [] [] all }
 level-holds L (a ∷ []) all = record { more = []; few = omega arith; all = all-longer L [] (sides (a ∷ [])) all }
 level-holds L (a ∷ (b ∷ pairs)) all =
@@ -470,7 +470,7 @@ level-holds L (a ∷ (b ∷ pairs)) all =
       all = subst (λ (M : List Signal). All (Parts M) out) (append_assoc L h.more k.more) joined;
     }
 
-levels-hold : (count : ℕ) (L : List Signal) (most : ℕ) (pairs : List Pair) → HoldsPairs L most pairs → HoldsPairs L most (levels count pairs)
+pub levels-hold : (count : ℕ) (L : List Signal) (most : ℕ) (pairs : List Pair) → HoldsPairs L most pairs → HoldsPairs L most (levels count pairs)
 levels-hold zero L most pairs h = h
 levels-hold (suc count) L most pairs h =
     let k = level-holds (L ++ h.more) pairs h.all in
@@ -480,7 +480,7 @@ levels-hold (suc count) L most pairs h =
       all = subst (λ (M : List Signal). All (Parts M) (sides (level pairs))) (append_assoc L h.more k.more) k.all;
     })
 
-head-parts : (L : List Signal) (pairs : List Pair) → Parts L (Word 0) → All (Parts L) (sides pairs) → Parts L (head_pair pairs).first × Parts L (head_pair pairs).second
+pub head-parts : (L : List Signal) (pairs : List Pair) → Parts L (Word 0) → All (Parts L) (sides pairs) → Parts L (head_pair pairs).first × Parts L (head_pair pairs).second
 head-parts L [] start all = (start, start)
 head-parts L (p ∷ pairs) start all = (All-head (Parts L) p.first (p.second ∷ sides pairs) all, All-head (Parts L) p.second (sides pairs) (All-tail (Parts L) p.first (p.second ∷ sides pairs) all))
 
@@ -552,7 +552,7 @@ position-found L s c = (within, not-false (same_signal s (signal_at L (position_
     ]
 
 -- different signals of a list are no more than it has
-few-of : (L signals : List Signal) → All (Contains L) signals → ((i k : ℕ) → i < length signals → k < length signals → signal_at signals i ≡ signal_at signals k → i ≡ k) → length signals ≤ length L
+pub few-of : (L signals : List Signal) → All (Contains L) signals → ((i k : ℕ) → i < length signals → k < length signals → signal_at signals i ≡ signal_at signals k → i ≡ k) → length signals ≤ length L
 few-of L signals all distinct = pigeonhole (length signals) (length L) place into once
   where
     place : ℕ → ℕ

@@ -6,7 +6,7 @@ use Rattle.code_checkers.specs.declared.word_sizes.WordSizes.{WordSizes}
 use Rattle.code_checkers.specs.Signal.{Signal}
 use Rattle.code_checkers.specs.Signal.Signal.{Buf}
 use Rattle.code_checkers.specs.TwoRail.{tree}
-use Rattle.code_checkers.specs.Checker.{pairs_over, rail1, rail2}
+use Rattle.code_checkers.specs.Checker.{group_pairs, pairs_over, rail1, rail2}
 use Rattle.code_checkers.specs.Gates.{signals_of, meaning, AreOrdered}
 use Rattle.code_checkers.specs.Walk.{walk}
 
@@ -33,3 +33,7 @@ IsCheckerOf P made = IsWalkOf (rail1 P) (rail2 P) made
 -- the gates are the checker of each plan whose word has these sizes, and whose groups are these
 abbrev pub IsWordChecker : WordSizes → List (List ℕ) → GateList → Type 0
 IsWordChecker S groups made = IsWalkOf (Buf (tree (pairs_over S groups)).first) (Buf (tree (pairs_over S groups)).second) made
+
+-- the gates are the checker of these parity groups, whose checks stand from place `check` of a word on: a walk over the rails of their pairs
+abbrev pub IsGroupChecker : ℕ → List (List ℕ) → GateList → Type 0
+IsGroupChecker check groups made = IsWalkOf (Buf (tree (group_pairs check groups)).first) (Buf (tree (group_pairs check groups)).second) made

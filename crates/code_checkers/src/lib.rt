@@ -28,5 +28,5 @@ pub use laws::{
     realised_rails_are_sound, tree_decides,
 };
 pub use pair_tree::tree_of;
-pub use plan_checker::{checker, word_checker};
+pub use plan_checker::{checker, group_checker, word_checker};
 pub use word_sizes::WordSizes;

@@ -2,7 +2,7 @@
 ghost use Rattle.std.specs.Prelude.{◌≡◌, ◌+◌, ◌<◌, ◌≤◌, ◌^◌, map, length, All, IfOk};
 ghost use Rattle.code_checkers.specs.Checker.{group_pairs as group_pairs_of, code_pairs_over, state_pairs as state_pairs_of, pairs_over};
 ghost use Rattle.code_checkers.specs.Draft.{PairsAreAdded};
-ghost use Rattle.code_checkers.specs.GateList.{IsCheckerOf, IsWordChecker};
+ghost use Rattle.code_checkers.specs.GateList.{IsCheckerOf, IsGroupChecker, IsWordChecker};
 ghost use Rattle.code_checkers.specs.Within.{ReadsWord};
 ghost use Rattle.code_checkers.specs.Size.{checker_size};
 ghost use Rattle.code_checkers.specs.SizedWords.{HasPlan};
@@ -128,6 +128,29 @@ pub fn word_checker(
 {
     let mut draft = Draft::new(alloc);
     let pairs = pairs(alloc, &mut draft, sizes, groups)?;
+    let rails = tree_rails(alloc, &mut draft, pairs)?;
+    let made = share(alloc, draft.gates(), rails)?;
+    Ok(made)
+}
+
+/// The checker of parity groups alone, however many places they have, whose checks stand from place `check` of a word on. Its rails differ
+/// exactly where each group with its check is odd.
+///
+/// # Errors
+///
+/// Want of memory.
+pub fn group_checker(
+    alloc: Global,
+    groups: &[Group],
+    check: usize,
+) -> Result<CheckGates, AllocError>
+    requires some { 0 < length groups.now }
+    requires filled { All (λ group. 0 < length group.places) groups.now }
+    requires fits { check + length groups.now < 2 ^ 64 }
+    ensures made { IfOk result (IsGroupChecker check (map (λ group. group.places) groups.now)) }
+{
+    let mut draft = Draft::new(alloc);
+    let pairs = group_pairs(alloc, &mut draft, groups, check)?;
     let rails = tree_rails(alloc, &mut draft, pairs)?;
     let made = share(alloc, draft.gates(), rails)?;
     Ok(made)

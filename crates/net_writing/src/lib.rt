@@ -14,6 +14,7 @@ mod outputs;
 mod rails;
 
 pub use beginning::begin;
+pub use checker_gates::cover_for;
 pub use checker_writing::{RailNames, add_checker};
 pub use fresh_names::{fresh_nets, fresh_number};
 pub use outputs::{add_outputs, output_names};

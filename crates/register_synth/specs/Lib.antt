@@ -5,5 +5,6 @@ pub mod RegisterGroups
 pub mod TwinNet
 pub mod TwinLaws
 pub mod TwinChecker
+pub mod TwinCircuit
 pub mod WorkedTwin
 pub mod inner
