@@ -1,20 +1,18 @@
 -- What the answer of a command is to the text that was read. Each definition is a function of the two texts' bytes.
-use Rattle.std.specs.Prelude.{◌≡◌, ◌≤◌, ℕ, List, length, None}
+use Rattle.std.specs.Prelude.{◌≡◌, ◌≤◌, ℕ, true, false, List, length, None}
 use Rattle.tsc_text.specs.Lines.{lines_of}
 use Rattle.fault_secure.specs.declared.code.Code.{Code}
 use Rattle.synth_ways.specs.declared.way.Way.{Way}
-use Rattle.synth_ways.specs.Ways.{way_code}
+use Rattle.synth_ways.specs.declared.way.Way.TheVariants.{Parity, Duplex, Berger, MOutOfN}
 use Rattle.fault_secure.specs.CodePlan.{CodePlan}
 use Rattle.fault_secure.specs.Circuit.{Circuit}
-use Rattle.fault_secure.specs.Logic.{Loose, Network, States, StateTable}
+use Rattle.fault_secure.specs.Logic.{Loose, States, StateTable}
 use Rattle.fault_secure.specs.FaultSecure.{IsFaultSecure}
 use Rattle.fault_secure.specs.CellSecure.{IsCellSecure}
 use Rattle.tsc_net.specs.NetlistOf.{NetlistOf}
 use Rattle.blif_read.specs.declared.kinds.Kind.TheVariants.{Netlist}
 use Rattle.blif_write.specs.Layout.{netlist_text}
 use Rattle.code_checkers.specs.SelfChecking.{IsSelfChecking}
-use Rattle.tsc_synth.specs.WayNetlist.{IsNetlistOf}
-use Rattle.tsc_synth.specs.CoverBound.{cover_bound}
 use Rattle.machine_synth.specs.MachineBound.{machine_bound}
 use Rattle.machine_synth.specs.MachineNetlist.{IsMachineNetlist}
 use Rattle.parity_synth.specs.ParityNet.{parity_netlist, parity_plan}
@@ -23,34 +21,19 @@ use Rattle.pla_read.specs.Networks.{AnswersAs}
 use Rattle.pla_read.specs.TableText.{is_free, is_one, TableOf}
 use Rattle.structure_laws.specs.LooseSource.{with_version}
 use Rattle.commands.specs.declared.command.Command.{Command}
-use Rattle.commands.specs.declared.command.Command.TheVariants.{SynthBlif, SynthKiss, SynthPla, Audit, AuditWide, AuditExact, AuditMapped, Faults, Vectors, Sim, Join}
+use Rattle.commands.specs.declared.command.Command.TheVariants.{SynthBlif, SynthWatched, SynthKiss, SynthPla, Audit, AuditWide, AuditExact, AuditMapped, Faults, Vectors, Sim, Join}
 use Rattle.refusals.specs.declared.ending.Ending.{Ending}
 use Rattle.refusals.specs.declared.ending.Ending.TheVariants.{Finished, Rejected}
 use Rattle.text_sections.specs.Denoted.{frees_in, inputs_in, machine_in, netlist_in, outputs_in, plan_in, table_in, values_in}
 use Rattle.text_sections.specs.Refused.{text_refusal}
 use Rattle.commands.specs.Words.{code_of}
+pub use Rattle.answers.specs.NetworkAnswers.{IsSecureFor, IsSynthesis}
+use Rattle.answers.specs.TwinAnswers.{IsTwinAnswer}
 use Rattle.exact_answers.specs.ExactReply.{IsExactReply}
 use Rattle.joint_answers.specs.JointReply.{IsJointReply}
 use Rattle.mapping_answers.specs.MappedReply.{IsMappedReply}
 use Rattle.wide_answers.specs.WideReply.{IsWideReply}
 use Rattle.netlist_answers.specs.Answers.{IsAcceptance, IsFaultList, IsRejection, IsSimulation, IsVectorList}
-
--- a netlist with its plan is what a way of synthesis makes of the network: within the bound on covers, of sound structure and following
--- it, and so secure for it, whichever one cell fails in any way, and whichever one listed fault is present at any steps
-pub record IsSecureFor (way : Way) (source net : NetlistOf) (plan : CodePlan) : Type 0 where
-  pub coded : plan.code ≡ way_code way
-  pub exact : IsNetlistOf way source net plan
-  pub covers : length net.circuit.nodes ≤ cover_bound way source.circuit
-  pub checking : IsSelfChecking (Network source.circuit) net.circuit plan
-  pub cells : IsCellSecure (Network source.circuit) net.circuit plan
-  pub secure : IsFaultSecure (Network source.circuit) net.circuit plan
-
--- nothing refuses the answer as a netlist; it is exactly the text of the netlist and the plan that it denotes; and they are secure for
--- the network that the text denotes
-pub record IsSynthesis (way : Way) (text answer : List ℕ) : Type 0 where
-  pub readable : text_refusal Netlist answer ≡ None
-  pub written : answer ≡ netlist_text (netlist_in answer) (plan_in answer)
-  pub secure : IsSecureFor way (netlist_in text) (netlist_in answer) (plan_in answer)
 
 -- a netlist with its plan is what the code asks for of the machine whose inputs and outputs have these names: within the bound on
 -- covers, of sound structure and following it, and so secure for it, whichever one cell fails in any way, and whichever one listed fault
@@ -102,9 +85,17 @@ parity_text source = netlist_text (parity_netlist source) (parity_plan source.ci
 abbrev pub duplex_text : NetlistOf → List ℕ
 duplex_text source = netlist_text (duplex_netlist source) (duplex_plan source.circuit)
 
+-- the answer of a synthesis of a BLIF source: two copies take registers too
+abbrev pub IsBlifSynthesis : Way → List ℕ → List ℕ → Type 0
+IsBlifSynthesis Parity text answer = IsSynthesis Parity text answer
+IsBlifSynthesis Duplex text answer = IsTwinAnswer false text answer
+IsBlifSynthesis Berger text answer = IsSynthesis Berger text answer
+IsBlifSynthesis MOutOfN text answer = IsSynthesis MOutOfN text answer
+
 -- the answer of a command to a text, where it finishes what it was asked for
 abbrev pub IsAnswer : Command → List ℕ → List ℕ → Type 0
-IsAnswer (SynthBlif way) text answer = IsSynthesis way text answer
+IsAnswer (SynthBlif way) text answer = IsBlifSynthesis way text answer
+IsAnswer SynthWatched text answer = IsTwinAnswer true text answer
 IsAnswer (SynthKiss code) text answer = IsMachineSynthesis (code_of code) text answer
 IsAnswer (SynthPla way) text answer = IsLooseSynthesis way text answer
 IsAnswer (Audit format) text answer = IsAcceptance format text answer

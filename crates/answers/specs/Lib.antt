@@ -1,2 +1,2 @@
-pub mod Refused
-pub mod Answers
+pub mod NetworkAnswers
+pub mod TwinAnswers

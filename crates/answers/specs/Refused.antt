@@ -3,11 +3,12 @@ use Rattle.std.specs.Prelude.{ℕ, Bool, true, false, List, Option, None, Some}
 use Rattle.fault_secure.specs.Logic.{StateTable}
 use Rattle.fault_secure.specs.declared.code.Code.{Code}
 use Rattle.synth_ways.specs.declared.way.Way.{Way}
-use Rattle.blif_read.specs.declared.kinds.Kind.TheVariants.{Source, Netlist}
-use Rattle.tsc_synth.specs.CoverBound.{is_too_large}
+use Rattle.synth_ways.specs.declared.way.Way.TheVariants.{Parity, Duplex, Berger, MOutOfN}
+use Rattle.blif_read.specs.declared.kinds.Kind.TheVariants.{Source, Registers, Netlist}
+use Rattle.tsc_synth.specs.CoverBound.{is_too_large, is_too_large_twin}
 use Rattle.tsc_synth.specs.MachineLimits.{has_too_many_states, takes_too_many_covers}
 use Rattle.commands.specs.declared.command.Command.{Command}
-use Rattle.commands.specs.declared.command.Command.TheVariants.{SynthBlif, SynthKiss, SynthPla, Audit, AuditWide, AuditExact, AuditMapped, Faults, Vectors, Sim, Join}
+use Rattle.commands.specs.declared.command.Command.TheVariants.{SynthBlif, SynthWatched, SynthKiss, SynthPla, Audit, AuditWide, AuditExact, AuditMapped, Faults, Vectors, Sim, Join}
 use Rattle.refusals.specs.declared.limit.Limit.TheVariants.{States, Covers}
 use Rattle.refusals.specs.declared.limit.OwnLimit.{OwnLimit}
 use Rattle.refusals.specs.declared.limit.OwnLimit.TheVariants.{Rows, Pins}
@@ -33,6 +34,17 @@ size_refusal false = None
 abbrev pub synth_refusal : Way → List ℕ → Option TextRefusal
 synth_refusal way text = first_of (text_refusal Source text) (size_refusal (is_too_large way (netlist_in text).circuit))
 
+-- a source, with registers or without, for a netlist of two copies: its text, then the bound on the covers of the netlist
+abbrev pub twin_refusal : Bool → List ℕ → Option TextRefusal
+twin_refusal watching text = first_of (text_refusal Registers text) (size_refusal (is_too_large_twin watching (netlist_in text).circuit))
+
+-- a BLIF source for a netlist by a way
+abbrev pub blif_refusal : Way → List ℕ → Option TextRefusal
+blif_refusal Parity text = synth_refusal Parity text
+blif_refusal Duplex text = twin_refusal false text
+blif_refusal Berger text = synth_refusal Berger text
+blif_refusal MOutOfN text = synth_refusal MOutOfN text
+
 -- a machine with more states than there are state words
 abbrev pub states_refusal : Bool → Option TextRefusal
 states_refusal true = Some (TooMany States)
@@ -52,7 +64,8 @@ synth_loose_refusal way text = first_of (pla_text_refusal text) (size_refusal (i
 
 -- the first refusal of a text by a command
 abbrev pub refusal_of : Command → List ℕ → Option TextRefusal
-refusal_of (SynthBlif way) text = synth_refusal way text
+refusal_of (SynthBlif way) text = blif_refusal way text
+refusal_of SynthWatched text = twin_refusal true text
 refusal_of (SynthKiss code) text = synth_machine_refusal (code_of code) text
 refusal_of (SynthPla way) text = synth_loose_refusal way text
 refusal_of (Audit format) text = audit_refusal format text

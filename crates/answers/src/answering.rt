@@ -4,9 +4,9 @@ ghost use Rattle.answers.specs.Answers.{IsReply};
 ghost use Rattle.netlist_answers.specs.Printout.{IsPrintable, is_sim, printout_ending, printout_text};
 ghost use Rattle.answers.specs.Refused.{StopsAt, refusal_of};
 
+use crate::blif_synthesis::{synth_blif, synth_twin};
 use crate::loose_synthesis::synth_pla;
 use crate::machine_synthesis::synth_kiss;
-use crate::network_synthesis::synth_blif;
 use commands::Command;
 use exact_answers::audit_exactly;
 use joint_answers::joint_in;
@@ -32,6 +32,7 @@ pub fn answer(alloc: Global, command: Command, text: &Bytes) -> Result<Printout,
 {
     match command {
         Command::SynthBlif(way) => Ok(Printout::Whole(finished(synth_blif(alloc, way, text)?))),
+        Command::SynthWatched => Ok(Printout::Whole(finished(synth_twin(alloc, true, text)?))),
         Command::SynthKiss(code) => Ok(Printout::Whole(finished(synth_kiss(alloc, code, text)?))),
         Command::SynthPla(way) => Ok(Printout::Whole(finished(synth_pla(alloc, way, text)?))),
         Command::Audit(format) => Ok(Printout::Whole(audit_text(alloc, format, text)?)),

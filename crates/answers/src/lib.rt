@@ -6,6 +6,7 @@
 #![tactic(auto)]
 
 mod answering;
+mod blif_synthesis;
 mod loose_synthesis;
 mod machine_synthesis;
 mod network_synthesis;

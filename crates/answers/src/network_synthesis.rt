@@ -22,7 +22,7 @@ use tsc_net::{Netlist, Plan, PlannedNetlist};
 use tsc_synth::{SynthError, synth};
 
 /// The text of a netlist, made in some way, that is secure for the network that `text` denotes.
-pub fn synth_blif(alloc: Global, way: Way, text: &Bytes) -> Result<Bytes, Refusal>
+pub fn synth_network(alloc: Global, way: Way, text: &Bytes) -> Result<Bytes, Refusal>
     requires short { length text.now ≤ 67108864 }
     ensures answers { IfOk result (λ bytes. IsSynthesis way text.now bytes) }
     ensures allowed { OnOk result (synth_refusal way text.now ≡ None) }
@@ -59,7 +59,7 @@ fn network_synthesis_in(alloc: Global, way: Way, text: &Bytes) -> Result<Planned
 }
 
 /// A netlist, made in some way, that is secure for a network. A text can hold it, since one can hold the network.
-fn network_synthesis_of(
+pub fn network_synthesis_of(
     alloc: Global,
     way: Way,
     source: &Netlist,

@@ -16,11 +16,10 @@ use Rattle.tsc_text.proofs.ReadWords.{lines_of-written}
 use Rattle.tsc_text.proofs.Written.{Both, both}
 use Rattle.blif_read.specs.Denotes.{refusal}
 use Rattle.tsc_text.specs.Section.{section_lines}
-use Rattle.blif_read.specs.NamedText.{latches_of, named_text, nodes_of, outputs_of}
+use Rattle.blif_read.specs.NamedText.{named_text, nodes_of, outputs_of}
 use Rattle.blif_read.specs.Seen.{seen_of}
 use Rattle.blif_read.specs.declared.kinds.Kind.{Kind}
 use Rattle.blif_read.proofs.CleanLines.{are_clean}
-use Rattle.blif_read.specs.Faults.{most_latches}
 use Rattle.blif_read.proofs.Counts.{AreFew, few_mapped, few_parts, many_nodes}
 use Rattle.blif_read.proofs.NotRefused.{no_line_fault, no_net_fault}
 use Rattle.blif_read.proofs.Scanned.{first_fault_is}
@@ -53,8 +52,8 @@ section-names text section e =
 good : (name : List ℕ) → IsShortName IsTextName name → IsGoodName name
 good name h = record { word = h.0.0; allowed = h.0.1; short = h.1 }
 
--- lines with such words, which aren't refused, denote a netlist that can be written
-lines-writable : (kind : Kind) (lines : List TextLine) → most_latches kind ≤ 64 → All (HasNames IsTextName) lines → refusal kind lines ≡ None → IsWritable (netlist_of (named_text lines))
+-- lines with such words, which aren't refused, denote a netlist that can be written, if it has few latches
+lines-writable : (kind : Kind) (lines : List TextLine) → length (netlist_of (named_text lines)).circuit.latches ≤ 64 → All (HasNames IsTextName) lines → refusal kind lines ≡ None → IsWritable (netlist_of (named_text lines))
 lines-writable kind lines latches names e =
     let N : Named = named_text lines in
     let clean = no_line_fault kind lines e in
@@ -66,16 +65,16 @@ lines-writable kind lines latches names e =
       names = All-weaker (IsShortName IsTextName) IsGoodName good (drivers N) (short_names IsTextName kind lines names clean);
       inputs = omega (arith, few.inputs);
       outputs = few_mapped _ (outputs_of lines) 66 (omega (arith, few.outputs));
-      latches = few_mapped _ (latches_of lines) 64 (omega (arith, few.latches, latches));
+      latches = latches;
       nodes = few_mapped _ (nodes_of lines) 1048576 (omega (arith, few.nodes, many_nodes kind));
       different = outputs-different N (no_net_fault kind lines e);
       each_node = All-map IsWritableNode (node_of place) (nodes_of lines) (nodes-writable place lines (are_clean kind lines (seen_of []) (sym (first_fault_is kind [] lines) ∙ clean)));
     }
 
 -- in a text of allowed bytes, what a section denotes that isn't refused is writable
-pub read-writable : (text : List ℕ) (lines : List TextLine) (section : Section) (kind : Kind) (net : NetlistOf) → most_latches kind ≤ 64 → bad_line text ≡ None → lines ≡ lines_of text
+pub read-writable : (text : List ℕ) (lines : List TextLine) (section : Section) (kind : Kind) (net : NetlistOf) → length net.circuit.latches ≤ 64 → bad_line text ≡ None → lines ≡ lines_of text
     → refusal kind (section_lines lines section) ≡ None → net ≡ netlist_of (named_text (section_lines lines section)) → IsWritable net
 read-writable text lines section kind net few allowed is sound denoted =
     let names : All (HasNames IsTextName) (section_lines lines section) =
     subst (λ all. All (HasNames IsTextName) (section_lines all section)) (sym is) (section-names text section allowed) in
-    subst IsWritable (sym denoted) (lines-writable kind (section_lines lines section) few names sound)
+    subst IsWritable (sym denoted) (lines-writable kind (section_lines lines section) (subst (λ (n : NetlistOf). length n.circuit.latches ≤ 64) denoted few) names sound)

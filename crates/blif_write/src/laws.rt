@@ -1,5 +1,5 @@
 //! Laws about texts that are read and written. Their functions do nothing: what they say holds of every text and of every netlist.
-ghost use Rattle.std.specs.Prelude.{◌≡◌, ℕ, ◌≤◌, List, None, All};
+ghost use Rattle.std.specs.Prelude.{◌≡◌, ℕ, ◌≤◌, List, None, length, All};
 ghost use Rattle.fault_secure.specs.CodePlan.{CodePlan, IsPlanOf, IsWellMade};
 ghost use Rattle.tsc_net.specs.NetlistOf.{IsBuilt, NetlistOf, netlist_of};
 ghost use Rattle.tsc_text.specs.Bytes.{bad_line};
@@ -8,7 +8,6 @@ ghost use Rattle.tsc_text.specs.TextLine.{TextLine};
 ghost use Rattle.tsc_text.specs.declared.section.Section.{Section};
 ghost use Rattle.blif_read.specs.Denotes.{refusal};
 ghost use Rattle.tsc_text.specs.Section.{section_lines};
-ghost use Rattle.blif_read.specs.Faults.{most_latches};
 ghost use Rattle.blif_read.specs.NamedText.{named_text};
 ghost use Rattle.blif_read.specs.declared.kinds.Kind.{Kind};
 ghost use Rattle.blif_write.specs.IsReadAs.{IsReadAs};
@@ -19,11 +18,11 @@ ghost use Rattle.blif_read.specs.declared.kinds.Kind.TheVariants.{Unplanned};
 ghost use Rattle.tsc_text.specs.Written.{WrittenLine};
 ghost use Rattle.blif_write.specs.Writable.{IsWritable};
 
-/// What is read can be written: where `read_blif` reads a section of a text, as a network without registers or as a netlist, the
-/// netlist that it gives is writable.
+/// What is read can be written: where `read_blif` reads a section of a text, the netlist that it gives is writable, if it has at most 64
+/// latches.
 pub fn read_nets_are_writable()
     ensures writable { (text : List ℕ) (lines : List TextLine) (section : Section) (kind : Kind) (net : NetlistOf)
-        → most_latches kind ≤ 64
+        → length net.circuit.latches ≤ 64
         → bad_line text ≡ None
         → lines ≡ lines_of text
         → refusal kind (section_lines lines section) ≡ None

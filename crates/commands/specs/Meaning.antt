@@ -1,18 +1,23 @@
 -- What the words after the program's name mean, by position.
 use Rattle.std.specs.Prelude.{ℕ, List, codes, if◌then◌else◌, Option, Some, option_map}
+use Rattle.std.specs.Str.{bytes_eq}
 use Rattle.tsc_text.specs.Number.{number_of}
 use Rattle.commands.specs.declared.command.Command.{Command}
-use Rattle.commands.specs.declared.command.Command.TheVariants.{SynthBlif, SynthKiss, SynthPla, Audit, AuditWide, AuditExact, AuditMapped, Faults, Vectors, Sim, Join}
+use Rattle.commands.specs.declared.command.Command.TheVariants.{SynthBlif, SynthWatched, SynthKiss, SynthPla, Audit, AuditWide, AuditExact, AuditMapped, Faults, Vectors, Sim, Join}
 use Rattle.commands.specs.declared.request.Request.{Request}
 use Rattle.commands.specs.declared.request.Request.TheVariants.{Read, Make, Help}
 use Rattle.commands.specs.declared.source_format.SourceFormat.TheVariants.{Blif, Kiss, Pla}
 use Rattle.commands.specs.SimWords.{sim_fault}
 use Rattle.commands.specs.Words.{format_named, is_audit, is_audit_exact, is_audit_wide, is_faults, is_help, is_join, is_make, is_synth, is_vectors, machine_code_named, rows_named, way_named, word_at}
 
+-- the synthesis of a BLIF source that a word names: `watched`, or a way
+abbrev pub blif_synthesis_named : List ℕ → Option Command
+blif_synthesis_named word = if bytes_eq word (codes "watched") then Some SynthWatched else option_map SynthBlif (way_named word)
+
 -- the command on a text that the words ask for, if they ask for one
 abbrev pub command_named : List (List ℕ) → Option Command
 command_named words =
-    if is_synth words (codes "blif") then option_map SynthBlif (way_named (word_at words 2))
+    if is_synth words (codes "blif") then blif_synthesis_named (word_at words 2)
     else if is_synth words (codes "kiss") then option_map SynthKiss (machine_code_named (word_at words 2))
     else if is_synth words (codes "pla") then option_map SynthPla (way_named (word_at words 2))
     else if is_audit words (codes "blif") then Some (Audit Blif)

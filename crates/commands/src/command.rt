@@ -1,6 +1,6 @@
 //! Commands on a text that is read.
 ghost use Rattle.std.specs.Prelude.{◌≡◌, ◌<◌, length, option_map, true, IfErr, IfOk};
-ghost use Rattle.commands.specs.Meaning.{command_named};
+ghost use Rattle.commands.specs.Meaning.{blif_synthesis_named, command_named};
 ghost use Rattle.commands.specs.SimWords.{has_fault_form, sim_fault};
 ghost use Rattle.commands.specs.Words.{format_named, is_audit, is_audit_exact, is_audit_wide, is_faults, is_join, is_synth, is_vectors, machine_code_named, rows_named, way_named, word_at, word_is};
 
@@ -16,7 +16,10 @@ use tsc_io::Words;
 #[derive(Drop)]
 pub enum Command {
     /// `synth blif parity`, `synth blif duplex`, `synth blif berger` or `synth blif mofn`: from a BLIF source to a netlist made in this way.
+    /// `duplex` takes registers too.
     SynthBlif(Way),
+    /// `synth blif watched`: from a BLIF source, with or without registers, to a netlist of two copies whose registers are watched.
+    SynthWatched,
     /// `synth kiss berger` or `synth kiss mofn`: from a KISS2 source to a netlist under this code.
     SynthKiss(MachineCode),
     /// `synth pla parity`, `synth pla duplex`, `synth pla berger` or `synth pla mofn`: from a PLA source to a netlist made in this way.
@@ -47,7 +50,7 @@ pub fn command_of(alloc: Global, words: &Words) -> Result<Option<Command>, Alloc
     ensures memory { IfErr result (λ error. has_fault_form words.now ≡ true) }
 {
     if is_synth(words, b"blif") {
-        Ok(way_named(word_at(words, 2)).map(Command::SynthBlif))
+        Ok(blif_synthesis_named(word_at(words, 2)))
     } else if is_synth(words, b"kiss") {
         Ok(machine_code_named(word_at(words, 2)).map(Command::SynthKiss))
     } else if is_synth(words, b"pla") {
@@ -100,6 +103,17 @@ fn machine_code_named(word: &[u8]) -> Option<MachineCode>
         Some(MachineCode::MOutOfN)
     } else {
         None
+    }
+}
+
+/// The synthesis of a BLIF source that a word names.
+fn blif_synthesis_named(word: &[u8]) -> Option<Command>
+    ensures command { result ≡ blif_synthesis_named word.now }
+{
+    if word == b"watched".as_slice() {
+        Some(Command::SynthWatched)
+    } else {
+        way_named(word).map(Command::SynthBlif)
     }
 }
 

@@ -1,5 +1,5 @@
 -- A joint of netlists that were accepted, whoever wrote them.
-use Rattle.std.proofs.Common.{ℕ, ◌<◌, List, [], ◌∷◌, length, Bool, true, false, Option, IfSome, sym, ap, subst, subst₂, arith}
+use Rattle.std.proofs.Common.{◌≡◌, ℕ, zero, suc, refl, ◌<◌, List, [], ◌∷◌, length, Bool, true, false, Option, IfSome, sym, ap, subst, subst₂, arith}
 use Rattle.std.proofs.lemmas.List.{length-map}
 use Rattle.tsc_text.specs.Lines.{lines_of}
 use Rattle.tsc_text.specs.Section.{is_end_line}
@@ -16,22 +16,38 @@ use Rattle.module_join.specs.JoinLaws.{IsJointOf, planned}
 use Rattle.module_join.specs.JoinParts.{planned_as}
 use Rattle.module_join.proofs.Joined.{joined}
 use Rattle.commands.specs.declared.command.Command.{Command}
-use Rattle.commands.specs.declared.command.Command.TheVariants.{SynthBlif, SynthKiss, SynthPla, Audit, AuditWide, AuditExact}
+use Rattle.commands.specs.declared.command.Command.TheVariants.{SynthBlif, SynthWatched, SynthKiss, SynthPla, Audit, AuditWide, AuditExact}
+use Rattle.synth_ways.specs.declared.way.Way.{Way}
+use Rattle.synth_ways.specs.declared.way.Way.TheVariants.{Parity, Duplex, Berger, MOutOfN}
+use Rattle.text_sections.specs.Denoted.{netlist_in}
 use Rattle.text_sections.specs.Parts.{parts_of, planned_of, sections_of, with_line, sections_behind}
 use Rattle.joint_answers.specs.JointParts.{parts_in}
-use Rattle.answers.specs.Answers.{IsAnswer}
+use Rattle.answers.specs.Answers.{IsAnswer, IsBlifSynthesis, IsSynthesis}
+use Rattle.joined_laws.specs.JoinedAnswers.{network_source, part_of, twin_source}
 use Rattle.joined_laws.specs.AcceptedParts.{AcceptedPartsAreJoined, IsAcceptedFor, answered_part, answered_source}
 
 -- what is accepted is alarm-secure for its source
 abbrev IsAlarmSecurePart : Logic → PlannedOf → Type 0
 IsAlarmSecurePart M p = IsAlarmSecure M p.net.circuit p.plan
 
+-- of two copies, where there is no register
+of_twin : (latches : ℕ) (text answer : List ℕ) → (latches ≡ 0 → IsSynthesis Duplex text answer) → IfSome (twin_source latches text) (λ M. IsAlarmSecurePart M (part_of answer))
+of_twin zero text answer is = cell_secure_is_alarm_secure _ _ _ (is refl).secure.cells
+of_twin (suc more) text answer is = tt
+
+of_way : (way : Way) (text answer : List ℕ) → IsBlifSynthesis way text answer → IfSome (network_source way text) (λ M. IsAlarmSecurePart M (part_of answer))
+of_way Parity text answer is = cell_secure_is_alarm_secure _ _ _ is.secure.cells
+of_way Duplex text answer is = of_twin (length (netlist_in text).circuit.latches) text answer is.network
+of_way Berger text answer is = cell_secure_is_alarm_secure _ _ _ is.secure.cells
+of_way MOutOfN text answer is = cell_secure_is_alarm_secure _ _ _ is.secure.cells
+
 of_answer : (command : Command) (text answer : List ℕ) → IsAnswer command text answer
     → IfSome (answered_source command text) (λ M. IsAlarmSecurePart M (answered_part command text answer))
 of_answer (Audit format) text answer is = cell_secure_is_alarm_secure _ _ _ is.cells
 of_answer (AuditWide rows) text answer is = cell_secure_is_alarm_secure _ _ _ is.cells
 of_answer (AuditExact format) text answer is = is.secure
-of_answer (SynthBlif way) text answer is = cell_secure_is_alarm_secure _ _ _ is.secure.cells
+of_answer (SynthBlif way) text answer is = of_way way text answer is
+of_answer SynthWatched text answer is = of_twin (length (netlist_in text).circuit.latches) text answer is.network
 of_answer (SynthKiss code) text answer is = cell_secure_is_alarm_secure _ _ _ is.secure.cells
 of_answer (SynthPla way) text answer is = cell_secure_is_alarm_secure _ _ _ is.secure.cells
 of_answer command text answer is = tt

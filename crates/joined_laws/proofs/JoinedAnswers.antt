@@ -11,14 +11,17 @@ use Rattle.module_join.specs.JointNet.{PlannedOf}
 use Rattle.module_join.specs.JoinLaws.{no_planned, planned}
 use Rattle.module_join.specs.JoinParts.{parts_as, planned_as}
 use Rattle.commands.specs.declared.command.Command.{Command}
-use Rattle.commands.specs.declared.command.Command.TheVariants.{SynthBlif, SynthKiss, SynthPla}
-use Rattle.text_sections.specs.Denoted.{netlist_in, plan_in}
+use Rattle.commands.specs.declared.command.Command.TheVariants.{SynthBlif, SynthWatched, SynthKiss, SynthPla}
+use Rattle.synth_ways.specs.declared.way.Way.{Way}
+use Rattle.synth_ways.specs.declared.way.Way.TheVariants.{Parity, Duplex, Berger, MOutOfN}
+use Rattle.commands.specs.declared.source_format.SourceFormat.TheVariants.{Blif}
+use Rattle.text_sections.specs.Denoted.{netlist_in, plan_in, source_in}
 use Rattle.text_sections.specs.Parts.{parts_refusal, planned_of, sections_behind, sections_of, sections_refusal}
 use Rattle.text_sections.specs.Refused.{byte_refusal, first_of}
 use Rattle.text_sections.proofs.PartLemmas.{refused_parts}
 use Rattle.joint_answers.specs.JointParts.{join_lines_refusal, join_refusal, joint_refusal, parts_in}
-use Rattle.answers.specs.Answers.{IsAnswer}
-use Rattle.joined_laws.specs.JoinedAnswers.{AnswersAreJoined, IsMadeFor, OneJoint, synthesis_source}
+use Rattle.answers.specs.Answers.{IsAnswer, IsBlifSynthesis, IsSynthesis}
+use Rattle.joined_laws.specs.JoinedAnswers.{AnswersAreJoined, IsMadeFor, OneJoint, network_source, synthesis_source, twin_source}
 use Rattle.joined_laws.proofs.AnswersInARow.{AreWritten, IsWritten, allowed_parts, bytes_in_a_row, parts_in_a_row, planned_in, some_sections}
 
 pub joints_are_determined : OneJoint
@@ -32,13 +35,29 @@ record IsSecurelyWritten (M : Logic) (answer : List ℕ) : Type 0 where
   cells : IsCellSecure M (netlist_in answer).circuit (plan_in answer)
   secure : IsFaultSecure M (netlist_in answer).circuit (plan_in answer)
 
-of_synthesis : (command : Command) (text answer : List ℕ) → IsAnswer command text answer
-    → IfSome (synthesis_source command text) (λ M. IsSecurelyWritten M answer)
-of_synthesis (SynthBlif way) text answer made = record {
+-- of a network by some way
+of_network : (way : Way) (text answer : List ℕ) → IsSynthesis way text answer → IsSecurelyWritten (source_in Blif text) answer
+of_network way text answer made = record {
   written = record { readable = made.readable; written = made.written; structure = made.secure.checking.structure };
   cells = made.secure.cells;
   secure = made.secure.secure;
 }
+
+-- of two copies, where there is no register
+of_twin : (latches : ℕ) (text answer : List ℕ) → (latches ≡ 0 → IsSynthesis Duplex text answer) → IfSome (twin_source latches text) (λ M. IsSecurelyWritten M answer)
+of_twin zero text answer made = of_network Duplex text answer (made refl)
+of_twin (suc more) text answer made = tt
+
+of_way : (way : Way) (text answer : List ℕ) → IsBlifSynthesis way text answer → IfSome (network_source way text) (λ M. IsSecurelyWritten M answer)
+of_way Parity text answer made = of_network Parity text answer made
+of_way Duplex text answer made = of_twin (length (netlist_in text).circuit.latches) text answer made.network
+of_way Berger text answer made = of_network Berger text answer made
+of_way MOutOfN text answer made = of_network MOutOfN text answer made
+
+of_synthesis : (command : Command) (text answer : List ℕ) → IsAnswer command text answer
+    → IfSome (synthesis_source command text) (λ M. IsSecurelyWritten M answer)
+of_synthesis (SynthBlif way) text answer made = of_way way text answer made
+of_synthesis SynthWatched text answer made = of_twin (length (netlist_in text).circuit.latches) text answer made.network
 of_synthesis (SynthKiss code) text answer made = record {
   written = record { readable = made.readable; written = made.written; structure = made.secure.checking.structure };
   cells = made.secure.cells;

@@ -1,11 +1,13 @@
 -- A text has one joint; and what syntheses answered, one after another, is joined: the statements of the laws.
-use Rattle.std.specs.Prelude.{◌≡◌, ℕ, ◌<◌, ◌≤◌, List, [], length, slice_index_or, Option, None, Some}
+use Rattle.std.specs.Prelude.{◌≡◌, ℕ, zero, suc, ◌<◌, ◌≤◌, List, [], length, slice_index_or, Option, None, Some}
 use Rattle.std.specs.List.{concat}
 use Rattle.fault_secure.specs.Logic.{Logic}
 use Rattle.joint_laws.specs.JointSecure.{IsJointCellSecure, IsJointFaultSecure}
 use Rattle.joint_text.specs.JointTextLaws.{TellsJoint}
 use Rattle.commands.specs.declared.command.Command.{Command}
-use Rattle.commands.specs.declared.command.Command.TheVariants.{SynthBlif, SynthKiss, SynthPla, Join}
+use Rattle.commands.specs.declared.command.Command.TheVariants.{SynthBlif, SynthWatched, SynthKiss, SynthPla, Join}
+use Rattle.synth_ways.specs.declared.way.Way.{Way}
+use Rattle.synth_ways.specs.declared.way.Way.TheVariants.{Parity, Duplex, Berger, MOutOfN}
 use Rattle.commands.specs.declared.source_format.SourceFormat.TheVariants.{Blif, Kiss, Pla}
 use Rattle.module_join.specs.JoinLaws.{planned}
 use Rattle.module_join.specs.JointNet.{PlannedOf}
@@ -18,9 +20,22 @@ use Rattle.answers.specs.Refused.{refusal_of}
 abbrev pub OneJoint : Type 0
 OneJoint = (text answer other : List ℕ) → IsAnswer Join text answer → IsAnswer Join text other → answer ≡ other
 
+-- the network that a text denotes for a synthesis of two copies, with so many registers: of a source with registers the answer is no part yet
+abbrev pub twin_source : ℕ → List ℕ → Option Logic
+twin_source zero text = Some (source_in Blif text)
+twin_source (suc more) text = None
+
+-- the network that a text denotes for a way of synthesis
+abbrev pub network_source : Way → List ℕ → Option Logic
+network_source Parity text = Some (source_in Blif text)
+network_source Duplex text = twin_source (length (netlist_in text).circuit.latches) text
+network_source Berger text = Some (source_in Blif text)
+network_source MOutOfN text = Some (source_in Blif text)
+
 -- the source that a text denotes for a synthesis
 abbrev pub synthesis_source : Command → List ℕ → Option Logic
-synthesis_source (SynthBlif way) text = Some (source_in Blif text)
+synthesis_source (SynthBlif way) text = network_source way text
+synthesis_source SynthWatched text = twin_source (length (netlist_in text).circuit.latches) text
 synthesis_source (SynthKiss code) text = Some (source_in Kiss text)
 synthesis_source (SynthPla way) text = Some (source_in Pla text)
 synthesis_source _ text = None

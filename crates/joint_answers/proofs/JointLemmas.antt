@@ -10,7 +10,6 @@ use Rattle.tsc_text.specs.declared.section.Section.{Section}
 use Rattle.tsc_net.specs.NetlistOf.{NetlistOf, netlist_of}
 use Rattle.tsc_net.specs.declared.planned.PlannedNetlist.{PlannedNetlist}
 use Rattle.blif_read.specs.Denotes.{refusal}
-use Rattle.blif_read.specs.Faults.{most_latches}
 use Rattle.blif_read.specs.NamedText.{named_text}
 use Rattle.blif_read.specs.declared.kinds.Kind.{Kind}
 use Rattle.blif_read.specs.declared.kinds.Kind.TheVariants.{Netlist}
@@ -23,6 +22,7 @@ use Rattle.joint_text.specs.JointTextLaws.{AreWritable, JointTextTells, JointTex
 use Rattle.refusals.specs.declared.refusal.Refusal.{Refusal}
 use Rattle.text_sections.specs.Parts.{IsPartOf, parts_of, parts_refusal}
 use Rattle.text_sections.specs.Refused.{IsRefusedBy, byte_refusal, first_of}
+use Rattle.text_sections.proofs.LimitLemmas.{few_latches}
 use Rattle.text_sections.proofs.SectionLemmas.{allowed_both, refused_later}
 use Rattle.joint_answers.specs.JointParts.{join_lines_refusal, join_refusal, joint_refusal, parts_in}
 use Rattle.joint_answers.specs.JointReply.{IsJointReply}
@@ -65,7 +65,7 @@ are_planned lines (part ∷ parts) are =
 
 -- what is read can be written
 abbrev ReadIsWritable : Type 0
-ReadIsWritable = (text : List ℕ) (lines : List TextLine) (section : Section) (kind : Kind) (net : NetlistOf) → most_latches kind ≤ 64 → bad_line text ≡ None
+ReadIsWritable = (text : List ℕ) (lines : List TextLine) (section : Section) (kind : Kind) (net : NetlistOf) → length net.circuit.latches ≤ 64 → bad_line text ≡ None
     → lines ≡ lines_of text → refusal kind (section_lines lines section) ≡ None → net ≡ netlist_of (named_text (section_lines lines section))
     → IsWritable net
 
@@ -75,7 +75,7 @@ are_writable : ReadIsWritable → (text : List ℕ) (lines : List TextLine) (par
 are_writable can text lines [] from sound are = tt
 are_writable can text lines (part ∷ parts) from sound are =
     let is = All-head (IsPartOf lines) part parts are in (
-      can text lines is.section Netlist part.net (omega arith) sound from is.allowed is.denoted,
+      can text lines is.section Netlist part.net (few_latches Netlist (section_lines lines is.section) part.net is.denoted is.allowed) sound from is.allowed is.denoted,
       are_writable can text lines parts from sound (All-tail (IsPartOf lines) part parts are),
     )
 

@@ -55,7 +55,7 @@ static HELP: Done = (
     b"help",
     b"",
     b"",
-    b"tsc synth blif parity|berger|mofn\ntsc synth kiss berger|mofn\ntsc synth pla parity|berger|mofn\ntsc synth blif|pla duplex\ntsc audit blif|kiss|pla\ntsc audit wide ROWS\ntsc audit exact blif|kiss|pla\ntsc audit mapped\ntsc faults\ntsc vectors\ntsc sim none\ntsc sim stem NET V WHEN\ntsc sim pin NET INDEX V WHEN\ntsc make NUMBER\ntsc join\ntsc help\n",
+    b"tsc synth blif parity|berger|mofn\ntsc synth kiss berger|mofn\ntsc synth pla parity|berger|mofn\ntsc synth blif|pla duplex\ntsc synth blif watched\ntsc audit blif|kiss|pla\ntsc audit wide ROWS\ntsc audit exact blif|kiss|pla\ntsc audit mapped\ntsc faults\ntsc vectors\ntsc sim none\ntsc sim stem NET V WHEN\ntsc sim pin NET INDEX V WHEN\ntsc make NUMBER\ntsc join\ntsc help\n",
 );
 
 /// A source that fails at its first call.

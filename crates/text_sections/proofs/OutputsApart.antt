@@ -1,4 +1,4 @@
--- A source that is not refused shows no net twice.
+-- A text that is not refused shows no net twice.
 use Rattle.std.proofs.Common.{◌≡◌, ℕ, ◌<◌, true, List, [], ◌∷◌, ◌++◌, map, length, slice_index, All, Option, Some, None, refl, sym, ◌∙◌, ap, subst, arith}
 use Rattle.std.proofs.lemmas.List.{length-map, get_or-map}
 use Rattle.std.proofs.lemmas.List.Elements.{All-get_or}
@@ -13,7 +13,7 @@ use Rattle.tsc_text.specs.TextLine.{TextLine}
 use Rattle.blif_read.specs.Denotes.{refusal}
 use Rattle.blif_read.specs.NamedText.{named_text}
 use Rattle.blif_read.proofs.NotRefused.{no_net_fault}
-use Rattle.blif_read.specs.declared.kinds.Kind.TheVariants.{Source}
+use Rattle.blif_read.specs.declared.kinds.Kind.{Kind}
 use Rattle.tsc_bits.specs.Lists.{AreApart}
 
 -- of a netlist without a fault nothing is shown twice, and all that is read is driven
@@ -39,13 +39,13 @@ shown_apart N numbering driven a b less low same =
         ap (text_at (drivers N)) (get_or-map (place_of_text (drivers N)) N.outputs k [] 0 low)
         ∙ text_at_place (drivers N) (text_at N.outputs k) (All-get_or (λ t. has_text (drivers N) t ≡ true) N.outputs k [] low driven)
 
--- so none does of a source that is read
-pub outputs_apart : (lines : List TextLine) (net : NetlistOf) → net ≡ netlist_of (named_text lines) → refusal Source lines ≡ None → AreApart net.circuit.outputs
-outputs_apart lines net exact allowed =
+-- so none does of a text that is read
+pub outputs_apart : (kind : Kind) (lines : List TextLine) (net : NetlistOf) → net ≡ netlist_of (named_text lines) → refusal kind lines ≡ None → AreApart net.circuit.outputs
+outputs_apart kind lines net exact allowed =
     subst (λ (n : NetlistOf). AreApart n.circuit.outputs) (sym exact) (shown_apart (named_text lines) numbering driven)
   where
     sound : fault_of (named_text lines) ≡ None
-    sound = no_net_fault Source lines allowed
+    sound = no_net_fault kind lines allowed
 
     both : (first_repeat (named_text lines).outputs ≡ None) × (first_missing (drivers (named_text lines)) (reads_of (named_text lines)) ≡ None)
     both = no_repeat (first_repeat (drivers (named_text lines))) (first_repeat (named_text lines).outputs) (first_missing (drivers (named_text lines)) (reads_of (named_text lines))) (named_text lines).outputs _ sound

@@ -1,6 +1,6 @@
 -- What a text denotes: the netlist and the plan of its first section, and the lines after it; or a machine and its names; or a table of a
 -- network with free bits; or a source of each format, and the netlist and the plan of the section after it.
-use Rattle.std.specs.Prelude.{ℕ, List, [], drop}
+use Rattle.std.specs.Prelude.{ℕ, List, [], drop, Option}
 use Rattle.std.specs.Option.{unwrap_or}
 use Rattle.tsc_text.specs.Lines.{lines_of}
 use Rattle.tsc_text.specs.TextLine.{TextLine}
@@ -10,9 +10,11 @@ use Rattle.tsc_text.specs.declared.section.End.TheVariants.{Blif as BlifEnd, Kis
 use Rattle.fault_secure.specs.declared.code.Code.TheVariants.{Parity}
 use Rattle.fault_secure.specs.CodePlan.{CodePlan}
 use Rattle.tsc_net.specs.NetlistOf.{NetlistOf, netlist_of}
+use Rattle.blif_read.specs.Clocks.{clock_text}
 use Rattle.blif_read.specs.Denotes.{plan_text}
 use Rattle.blif_read.specs.NamedText.{named_text}
-use Rattle.blif_read.specs.declared.kinds.Kind.TheVariants.{Netlist}
+use Rattle.blif_read.specs.declared.clocks.Clock.{Clock}
+use Rattle.blif_read.specs.declared.kinds.Kind.TheVariants.{Netlist, Registers}
 use Rattle.fault_secure.specs.Logic.{Logic, Loose, Network, States, StateTable}
 use Rattle.kiss_read.specs.TableText.{machine_text}
 use Rattle.kiss_read.specs.NamesText.{input_names, output_names}
@@ -48,6 +50,10 @@ first_net lines = net_from lines 0
 -- the netlist that a text denotes
 abbrev pub netlist_in : List ℕ → NetlistOf
 netlist_in text = first_net (lines_of text)
+
+-- the clock of the registers that a text denotes, where they have one
+abbrev pub clock_in : List ℕ → Option Clock
+clock_in text = clock_text Registers (first_lines (lines_of text))
 
 -- a plan of nothing, which stands for that of lines without a plan line
 abbrev pub no_plan : CodePlan

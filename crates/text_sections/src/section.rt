@@ -7,6 +7,7 @@ ghost use Rattle.tsc_net.specs.Limits.{most_nets};
 ghost use Rattle.tsc_bits.specs.Lists.{AreApart};
 ghost use Rattle.tsc_text.specs.Bytes.{bad_line};
 ghost use Rattle.tsc_text.specs.Lines.{lines_of};
+ghost use Rattle.blif_read.specs.Clocks.{clock_text};
 ghost use Rattle.blif_read.specs.Denotes.{DenotesNetlist, DenotesSource, plan_text};
 ghost use Rattle.blif_read.specs.NamedText.{named_text};
 ghost use Rattle.blif_write.specs.Writable.{IsWritable};
@@ -41,6 +42,44 @@ pub fn read_source(alloc: Global, text: &Bytes) -> Result<Netlist, Refusal>
     let lines = text_lines(alloc, text)?;
     let source = source_of(alloc, &lines)?;
     Ok(source)
+}
+
+/// The network with registers that `text` denotes, all of whose lines belong to it, and their clock. It may have no registers.
+///
+/// # Errors
+///
+/// The first refusal of the text, or want of memory.
+pub fn read_registers(alloc: Global, text: &Bytes) -> Result<BlifText, Refusal>
+    requires short { length text.now ≤ 67108864 }
+    ensures exact { IfOk result (λ source. source.net ≡ netlist_of (named_text (first_lines (lines_of text.now)))) }
+    ensures clock { IfOk result (λ source. source.clock ≡ clock_text Kind.Registers (first_lines (lines_of text.now))) }
+    ensures latches { IfOk result (λ source. length source.net.circuit.latches ≤ 16384) }
+    ensures few { IfOk result (λ source. length source.net.circuit.outputs ≤ 64) }
+    ensures once { IfOk result (λ source. AreApart source.net.circuit.outputs) }
+    ensures writable { IfOk result (λ source. length source.net.circuit.latches ≡ 0 → IsWritable source.net) }
+    ensures allowed { OnOk result (text_refusal Kind.Registers text.now ≡ None) }
+    ensures refused { IfErr result (IsRefusedBy (text_refusal Kind.Registers text.now)) }
+{
+    read_nets_are_writable();
+    let lines = text_lines(alloc, text)?;
+    let source = registers_of(alloc, &lines)?;
+    Ok(source)
+}
+
+/// The network with registers that the lines denote, all of which belong to it, and their clock.
+fn registers_of(alloc: Global, lines: &Lines) -> Result<BlifText, Refusal>
+    ensures exact { IfOk result (λ source. source.net ≡ netlist_of (named_text (first_lines lines.now))) }
+    ensures clock { IfOk result (λ source. source.clock ≡ clock_text Kind.Registers (first_lines lines.now)) }
+    ensures latches { IfOk result (λ source. length source.net.circuit.latches ≤ 16384) }
+    ensures few { IfOk result (λ source. length source.net.circuit.outputs ≤ 64) }
+    ensures once { IfOk result (λ source. AreApart source.net.circuit.outputs) }
+    ensures allowed { OnOk result (lines_refusal Kind.Registers lines.now ≡ None) }
+    ensures refused { IfErr result (IsRefusedBy (lines_refusal Kind.Registers lines.now)) }
+{
+    match last_text(alloc, lines, 0, Kind::Registers) {
+        Ok(text) => Ok(text),
+        Err(refusal) => Err(refusal),
+    }
 }
 
 /// The netlist with its plan that `text` denotes, all of whose lines belong to it.
@@ -172,6 +211,7 @@ fn last_text(alloc: Global, lines: &Lines, from: usize, kind: Kind) -> Result<Bl
     ensures named { IfOk result (λ text. named_of text.net ≡ named_text (lines_from lines.now from)) }
     ensures exact { IfOk result (λ text. text.net ≡ net_from lines.now from) }
     ensures plan { IfOk result (λ text. text.plan ≡ plan_text kind (lines_from lines.now from) text.net) }
+    ensures clock { IfOk result (λ text. text.clock ≡ clock_text kind (lines_from lines.now from)) }
     ensures of_net { IfOk result (λ text. IfSome text.plan (IsPlanOf text.net.circuit)) }
     ensures allowed { OnOk result (last_refusal kind lines.now from ≡ None) }
     ensures refused { IfErr result (IsRefusedBy (last_refusal kind lines.now from)) }
@@ -252,6 +292,7 @@ fn text_from(alloc: Global, lines: &Lines, from: usize, kind: Kind) -> Result<Bl
     ensures named { IfOk result (λ text. named_of text.net ≡ named_text (lines_from lines.now from)) }
     ensures exact { IfOk result (λ text. text.net ≡ net_from lines.now from) }
     ensures plan { IfOk result (λ text. text.plan ≡ plan_text kind (lines_from lines.now from) text.net) }
+    ensures clock { IfOk result (λ text. text.clock ≡ clock_text kind (lines_from lines.now from)) }
     ensures of_net { IfOk result (λ text. IfSome text.plan (IsPlanOf text.net.circuit)) }
     ensures allowed { OnOk result (refusal_from kind lines.now from ≡ None) }
     ensures refused { IfErr result (IsRefusedBy (refusal_from kind lines.now from)) }

@@ -1,5 +1,5 @@
 -- The bound on the covers of a netlist by a way of synthesis, over counts of its source alone.
-use Rattle.std.specs.Prelude.{ℕ, ◌+◌, ◌*◌, ◌^◌, nat_lt, Bool, length, IsTrue}
+use Rattle.std.specs.Prelude.{ℕ, zero, suc, ◌+◌, ◌*◌, ◌^◌, nat_lt, Bool, true, false, length, IsTrue}
 use Rattle.fault_secure.specs.Circuit.{Circuit}
 use Rattle.fault_secure.specs.Size.{network_size}
 use Rattle.synth_ways.specs.declared.way.Way.{Way}
@@ -33,3 +33,23 @@ abbrev pub RefusesSource : Way → Circuit → SynthError → Type 0
 RefusesSource way C TooManyStates = ⊥
 RefusesSource way C TooLarge = IsTrue (is_too_large way C)
 RefusesSource way C (Memory e) = Unit {0}
+
+-- how many covers more the watch of so many registers may cost: two for each of them, and five
+abbrev pub watch_bound : Bool → ℕ → ℕ
+watch_bound true zero = 0
+watch_bound true (suc more) = 2 * suc more + 5
+watch_bound false registers = 0
+
+-- the bound on the covers of a netlist of two copies of a source, with registers or without, which may be watched
+abbrev pub twin_bound : Bool → Circuit → ℕ
+twin_bound watching C = cover_bound Duplex C + watch_bound watching (length C.latches)
+
+-- that bound is above 1,048,576
+abbrev pub is_too_large_twin : Bool → Circuit → Bool
+is_too_large_twin watching C = nat_lt 1048576 (twin_bound watching C)
+
+-- why a source has no such netlist: the bound is too large; memory may be missing anywhere
+abbrev pub RefusesTwin : Bool → Circuit → SynthError → Type 0
+RefusesTwin watching C TooManyStates = ⊥
+RefusesTwin watching C TooLarge = IsTrue (is_too_large_twin watching C)
+RefusesTwin watching C (Memory e) = Unit {0}

@@ -23,7 +23,7 @@ use tsc_net::{Netlist, PlannedNetlist};
 use unate_synth::unate_netlist;
 
 /// As many copies of a network as a netlist whose groups share one may cost.
-const DUPLEX_COPIES: usize = 3;
+pub(crate) const DUPLEX_COPIES: usize = 3;
 
 /// As many copies of a network as a netlist under an unordered code may cost.
 const UNATE_COPIES: usize = 4;

@@ -21,5 +21,5 @@ returns-clause-allowed c =
 pub returns-clause-writable : goal.returns-clause-writable
 returns-clause-writable c =
     let lines = c.in_ok-lines.lines in
-    c.read_nets_are_writable.ensures.writable c.args.text.now lines (first_section lines) Source c.in_ok-source.source (omega arith) c.in_ok-lines.ensures.allowed c.in_ok-lines.ensures.lines
+    c.read_nets_are_writable.ensures.writable c.args.text.now lines (first_section lines) Source c.in_ok-source.source (omega (arith, c.in_ok-source.ensures.combinational)) c.in_ok-lines.ensures.allowed c.in_ok-lines.ensures.lines
     (section_allowed Source lines 0 c.in_ok-source.ensures.allowed) c.in_ok-source.ensures.exact

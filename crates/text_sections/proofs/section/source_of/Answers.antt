@@ -12,8 +12,8 @@ returns-in-Ok-clause-combinational c =
 
 pub returns-in-Ok-clause-few : goal.returns-in-Ok-clause-few
 returns-in-Ok-clause-few c =
-    few_outputs (first_lines c.args.lines.now) c.in-Ok.text.net c.in-Ok.ensures.exact (section_allowed Source c.args.lines.now 0 c.in-Ok.ensures.allowed)
+    few_outputs Source (first_lines c.args.lines.now) c.in-Ok.text.net c.in-Ok.ensures.exact (section_allowed Source c.args.lines.now 0 c.in-Ok.ensures.allowed)
 
 pub returns-in-Ok-clause-once : goal.returns-in-Ok-clause-once
 returns-in-Ok-clause-once c =
-    outputs_apart (first_lines c.args.lines.now) c.in-Ok.text.net c.in-Ok.ensures.exact (section_allowed Source c.args.lines.now 0 c.in-Ok.ensures.allowed)
+    outputs_apart Source (first_lines c.args.lines.now) c.in-Ok.text.net c.in-Ok.ensures.exact (section_allowed Source c.args.lines.now 0 c.in-Ok.ensures.allowed)

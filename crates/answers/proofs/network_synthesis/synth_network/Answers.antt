@@ -1,6 +1,6 @@
 -- The text that is written is read again as the netlist.
 use Rattle.answers.proofs.SynthesisLemmas.{synthesis}
-use Rattle.answers.proofs.network_synthesis.synth_blif.Goals as goal
+use Rattle.answers.proofs.network_synthesis.synth_network.Goals as goal
 
 pub returns-in-Ok-clause-answers : goal.returns-in-Ok-clause-answers
 returns-in-Ok-clause-answers c =

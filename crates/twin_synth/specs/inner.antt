@@ -1,0 +1,2 @@
+-- What the steps of the code answer and keep.
+pub mod Built
