@@ -3,6 +3,7 @@ pub mod After
 pub mod Filled
 pub mod NetFacts
 pub mod PlanFacts
+pub mod RegisterNets
 pub mod Pins
 pub mod Good
 pub mod CanBeWritten
