@@ -10,6 +10,8 @@ pub mod CanBeWritten
 pub mod LineKinds
 pub mod ReadBack
 pub mod Told
+pub mod ClockBack
+pub mod RegistersTold
 pub mod LimitsAlone
 pub mod ReadLaw
 pub mod NoFault

@@ -62,6 +62,10 @@ pub state_lines-words : (width : ℕ) (words : List ℕ) → map state_line (map
 state_lines-words width [] = refl
 state_lines-words width (word ∷ words) = ap (λ lines. line_of_state width word ∷ lines) (state_lines-words width words)
 
+pub on-ok : {A : Type 0} (r : Result (Unit {0}) AllocError) → A → OnOk r A
+on-ok (Ok _) a = a
+on-ok (Err _) a = tt
+
 pub made-on-ok : (r : Result (Unit {0}) AllocError) (p : Inside) (P : CodePlan) → plan_of p ≡ P → IsWellMade (plan_of p) → OnOk r (IsWellMade P)
 made-on-ok (Ok _) p P e h = subst IsWellMade e h
 made-on-ok (Err _) p P e h = tt

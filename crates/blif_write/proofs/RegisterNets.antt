@@ -1,5 +1,5 @@
 -- The nets that the plan of a netlist with registers names, and the lines of what is watched.
-use Rattle.std.proofs.Common.{◌≡◌, ℕ, ◌+◌, ◌<◌, List, [], ◌∷◌, length, refl, subst, All, arith}
+use Rattle.std.proofs.Common.{◌≡◌, ℕ, ◌<◌, List, [], ◌∷◌, length, refl, subst, All, arith}
 use Rattle.fault_secure.specs.Circuit.{Circuit, nets}
 use Rattle.tsc_net.specs.NetlistOf.{NetlistOf, names_of}
 use Rattle.tsc_net.specs.PlanView.{net_numbers}

@@ -17,8 +17,8 @@ mod words;
 mod writer;
 
 pub use laws::{
-    limits_alone_are_refused, read_nets_are_writable, written_netlists_are_read,
-    written_netlists_are_told,
+    limits_alone_are_refused, read_nets_are_writable, register_plans_are_told, registers_are_told,
+    written_netlists_are_read, written_netlists_are_told,
 };
 pub use register_writing::write_registers;
 pub use writer::write_blif;

@@ -33,6 +33,7 @@ pub fn push_code_lines(out: &mut Bytes, net: &Netlist, plan: &Plan) -> Result<()
     requires shown { plan.now.outputs ≤ length net.now.circuit.outputs }
     requires known { AreNets net.now.circuit plan.now.checks }
     ensures lines { OnOk result (out.new ≡ after_lines out.old (code_lines (named_plan net.now plan.now))) }
+    ensures well_made { OnOk result (IsWellMade plan.now) }
 {
     push_code_line(out, plan.version, plan.code)?;
     push_check_lines(out, net, plan)

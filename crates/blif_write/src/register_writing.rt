@@ -1,11 +1,12 @@
 //! Writing a netlist with registers, with a clock and with what is watched.
 ghost use Rattle.std.specs.Prelude.{◌≡◌, IfOk, OnOk};
-ghost use Rattle.fault_secure.specs.CodePlan.{IsPlanOf};
+ghost use Rattle.fault_secure.specs.CodePlan.{IsPlanOf, IsWellMade};
 ghost use Rattle.tsc_net.specs.NetlistOf.{IsBuilt, names_of};
 ghost use Rattle.tsc_net.specs.PlanView.{net_numbers};
 ghost use Rattle.blif_write.specs.NetLines.{AreNets};
 ghost use Rattle.blif_write.specs.RegisterText.{lists_of, register_plan_lines, register_text, registers_as_inputs, watch_line, watch_lines};
 ghost use Rattle.blif_write.specs.Steps.{after_line, after_lines};
+ghost use Rattle.blif_write.specs.Told.{IsTellable, IsToldClock, TellsRegisters};
 
 use crate::head::push_head;
 use crate::latches::push_latches;
@@ -21,8 +22,9 @@ use tsc_net::{NetId, Netlist, Plan};
 
 /// The text of a netlist with registers and its plan, in time linear in its length. The plan has no state words: it is one of the
 /// netlist with its registers as further inputs. `watch` has the watched registers and then the check of the watch; where it is
-/// empty nothing is watched, and no line says so. Each `.latch` line has the clock's type and control, if there is a clock, and
-/// the `#tsc watch` line stands after those of the checks.
+/// empty nothing is watched, and no line says so. The `#tsc watch` line stands after those of the checks, and each line of a
+/// register is `.latch READS OUT INIT`, or `.latch READS OUT TYPE CONTROL INIT` with a clock. The text is read again as this
+/// netlist with this clock, where its names are words.
 ///
 /// # Errors
 ///
@@ -37,6 +39,7 @@ pub fn write_registers(
     requires of_net { IsPlanOf (registers_as_inputs net.now.circuit) plan.now }
     requires watched { AreNets net.now.circuit (net_numbers watch.now) }
     ensures text { IfOk result (λ text. text ≡ register_text clock.now net.now plan.now (lists_of (net_numbers watch.now))) }
+    ensures told { IfOk result (λ text. IsTellable net.now → IsToldClock clock.now → TellsRegisters clock.now text net.now (register_plan_lines net.now plan.now (lists_of (net_numbers watch.now)))) }
 {
     // What each netlist keeps is known from here on.
     let _nets = net.nets();
@@ -60,6 +63,7 @@ fn push_register_plan(
     requires of_net { IsPlanOf (registers_as_inputs net.now.circuit) plan.now }
     requires watched { AreNets net.now.circuit (net_numbers watch.now) }
     ensures lines { OnOk result (out.new ≡ after_lines out.old (register_plan_lines net.now plan.now (lists_of (net_numbers watch.now)))) }
+    ensures well_made { OnOk result (IsWellMade plan.now) }
 {
     push_code_lines(out, net, plan)?;
     push_watch(out, net, watch)
