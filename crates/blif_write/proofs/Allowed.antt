@@ -11,7 +11,7 @@ use Rattle.fault_secure.specs.declared.code.Code.{Code}
 use Rattle.fault_secure.specs.declared.code.Code.TheVariants.{Parity, Berger, MOutOfN}
 use Rattle.tsc_net.specs.Named.{Named, NamedLatch, NamedNode}
 use Rattle.blif_write.specs.NamedPlan.{NamedPlan}
-use Rattle.blif_write.specs.Layout.{word_of_bits, version_word, code_word, group_line, state_line, check_lines, plan_lines, latch_line, row_line, node_lines, head_lines, end_line, layout_with}
+use Rattle.blif_write.specs.Layout.{bit_character, word_of_bits, version_word, code_word, code_line, group_line, state_line, check_lines, plan_lines, clocked_latch_line, row_line, node_lines, head_lines, end_line, clocked_layout}
 use Rattle.blif_write.proofs.Good.{Names, GoodLatch, GoodNode, GoodNet, GoodGroup, ChecksOf, GoodPlan}
 use Rattle.tsc_text.proofs.AllowedTexts.{IsAllowed-append, bad_line_from-none}
 
@@ -52,7 +52,7 @@ Each-map : {A : Type 0} (f : A → WrittenLine) (P : A → Type 0) (xs : List A)
 Each-map f P [] each h = tt
 Each-map f P (x ∷ xs) each h = (each x h.0, Each-map f P xs each h.1)
 
-names-fit : (names : List (List ℕ)) → Names names → WordsFit names
+pub names-fit : (names : List (List ℕ)) → Names names → WordsFit names
 names-fit [] h = tt
 names-fit (name ∷ names) h = (h.0.allowed, names-fit names h.1)
 
@@ -85,8 +85,9 @@ nodes-fit (n ∷ nodes) h = Each-append (node_lines n) (flat_map node_lines node
     ((refl, words-append n.reads (n.out ∷ []) (names-fit n.reads h.0.reads) (h.0.out.allowed, tt)), rows-fit n.cover.on n.cover.rows)
     (nodes-fit nodes h.1)
 
-latch-fits : (l : NamedLatch) → GoodLatch l → LineFits (latch_line l)
-latch-fits l h = (refl, (h.reads.allowed, (h.out.allowed, (bits-fit (l.init ∷ []), tt))))
+latch-fits : (clock : List (List ℕ)) → Names clock → (l : NamedLatch) → GoodLatch l → LineFits (clocked_latch_line clock l)
+latch-fits clock k l h =
+    (refl, (h.reads.allowed, (h.out.allowed, words-append clock ((bit_character l.init ∷ []) ∷ []) (names-fit clock k) (bits-fit (l.init ∷ []), tt))))
 
 checks-fit : (code : Code) (P : NamedPlan) → ChecksOf code P → Each LineFits (check_lines code P)
 checks-fit Parity P h = Each-map group_line GoodGroup P.groups (λ names good. (refl, names-fit names good.each)) h
@@ -102,22 +103,25 @@ code-fits Parity = refl
 code-fits Berger = refl
 code-fits MOutOfN = refl
 
+pub code_line-fits : (version : ℕ) (code : Code) → (version ≡ 1) ⊎ (version ≡ 2) → LineFits (code_line version code)
+code_line-fits version code h = (version-fits version h, (code-fits code, tt))
+
 pub plan-fits : (P : NamedPlan) → GoodPlan P → Each LineFits (plan_lines P)
 plan-fits P h = (
-  (version-fits P.version h.version, (code-fits P.code, tt)),
+  code_line-fits P.version P.code h.version,
   Each-append (check_lines P.code P) (map state_line P.states) (checks-fit P.code P h.checks)
       (Each-map state_line (λ bits. 1 ≤ length bits) P.states (λ bits _. (refl, (bits-fit bits, tt))) h.states),
 )
 
 -- the text of a layout has only bytes that a text may hold
-pub layout-allowed : (N : Named) (plan : List WrittenLine) → GoodNet N → Each LineFits plan → bad_line (text_of (layout_with N plan)) ≡ None
-layout-allowed N plan h k = bad_line_from-none 1 (text_of (layout_with N plan)) (text-fit (layout_with N plan)
-    (Each-append (((head_lines N ++ plan) ++ map latch_line N.latches) ++ flat_map node_lines N.nodes) (end_line ∷ [])
-    (Each-append ((head_lines N ++ plan) ++ map latch_line N.latches) (flat_map node_lines N.nodes)
-    (Each-append (head_lines N ++ plan) (map latch_line N.latches)
+pub clocked-allowed : (clock : List (List ℕ)) (N : Named) (plan : List WrittenLine) → Names clock → GoodNet N → Each LineFits plan → bad_line (text_of (clocked_layout clock N plan)) ≡ None
+clocked-allowed clock N plan w h k = bad_line_from-none 1 (text_of (clocked_layout clock N plan)) (text-fit (clocked_layout clock N plan)
+    (Each-append (((head_lines N ++ plan) ++ map (clocked_latch_line clock) N.latches) ++ flat_map node_lines N.nodes) (end_line ∷ [])
+    (Each-append ((head_lines N ++ plan) ++ map (clocked_latch_line clock) N.latches) (flat_map node_lines N.nodes)
+    (Each-append (head_lines N ++ plan) (map (clocked_latch_line clock) N.latches)
     (Each-append (head_lines N) plan
     ((refl, (h.model.allowed, tt)), ((refl, names-fit N.inputs h.inputs), ((refl, names-fit N.outputs h.outputs), tt)))
     k)
-    (Each-map latch_line GoodLatch N.latches latch-fits h.latches))
+    (Each-map (clocked_latch_line clock) GoodLatch N.latches (latch-fits clock w) h.latches))
     (nodes-fit N.nodes h.nodes))
     ((refl, tt), tt)))

@@ -13,7 +13,7 @@ use Rattle.fault_secure.specs.declared.code.Code.{Code}
 use Rattle.fault_secure.specs.declared.code.Code.TheVariants.{Parity, Berger, MOutOfN}
 use Rattle.tsc_net.specs.Named.{Named, NamedLatch, NamedNode}
 use Rattle.blif_write.specs.NamedPlan.{NamedPlan}
-use Rattle.blif_write.specs.Layout.{bit_character, word_of_bits, version_word, code_word, code_line, group_line, check_line, state_line, check_lines, plan_lines, latch_line, names_line, row_line, row_lines, node_lines, head_lines, end_line, layout_with}
+use Rattle.blif_write.specs.Layout.{bit_character, word_of_bits, plan_line_of, version_word, code_word, code_line, group_line, check_line, state_line, check_lines, plan_lines, clocked_latch_line, names_line, row_line, row_lines, node_lines, head_lines, end_line, clocked_layout}
 use Rattle.blif_write.proofs.Good.{Names, GoodLatch, GoodNode, GoodNet, GoodGroup, GoodChecks, ChecksOf, GoodPlan}
 
 -- all lines can be written
@@ -106,9 +106,13 @@ names-line-can n h = line-can false (codes ".names") (n.reads ++ n.out ∷ []) r
 node-can : (n : NamedNode) → GoodNode n → Can (node_lines n)
 node-can n h = Can-cons (names_line n) (row_lines n.cover) (names-line-can n h) (rows-can n.cover.on n.cover.rows)
 
-latch-can : (l : NamedLatch) → GoodLatch l → can_be_written (latch_line l) ≡ true
-latch-can l h = line-can false (codes ".latch") (l.reads ∷ l.out ∷ (bit_character l.init ∷ []) ∷ []) refl
-    (ap₂ (λ x y. x && y) (word-in false l.reads h.reads.word) (ap₂ (λ x y. x && y) (word-in false l.out h.out.word) (ap (λ x. x && true) (bits-word false (l.init ∷ []) (omega arith)))))
+latch-can : (clock : List (List ℕ)) → Names clock → (l : NamedLatch) → GoodLatch l → can_be_written (clocked_latch_line clock l) ≡ true
+latch-can clock k l h =
+    let init : List (List ℕ) = (bit_character l.init ∷ []) ∷ [] in
+    line-can false (codes ".latch") (l.reads ∷ l.out ∷ (clock ++ init)) refl
+    (ap₂ (λ x y. x && y) (word-in false l.reads h.reads.word)
+    (ap₂ (λ x y. x && y) (word-in false l.out h.out.word)
+    (list_all-append (is_word false) clock init ∙ ap₂ (λ x y. x && y) (names-words false clock k) (ap (λ x. x && true) (bits-word false (l.init ∷ []) (omega arith))))))
 
 version-can : (version : ℕ) → (version ≡ 1) ⊎ (version ≡ 2) → is_word true (version_word version) ≡ true
 version-can version (inl e) = ap (λ v. is_word true (version_word v)) e
@@ -119,11 +123,15 @@ code-can Parity = refl
 code-can Berger = refl
 code-can MOutOfN = refl
 
+-- a plan line of a word and of names
+pub named-can : (w : List ℕ) (names : List (List ℕ)) → is_word true w ≡ true → Names names → can_be_written (plan_line_of (w ∷ names)) ≡ true
+named-can w names h k = line-can true w names h (names-words true names k)
+
 group-can : (names : List (List ℕ)) → GoodGroup names → can_be_written (group_line names) ≡ true
-group-can names h = line-can true (codes "group") names refl (names-words true names h.each)
+group-can names h = named-can (codes "group") names refl h.each
 
 check-can : (names : List (List ℕ)) → GoodChecks names → can_be_written (check_line names) ≡ true
-check-can names h = line-can true (codes "check") names refl (names-words true names h.each)
+check-can names h = named-can (codes "check") names refl h.each
 
 state-can : (bits : List Bool) → 1 ≤ length bits → can_be_written (state_line bits) ≡ true
 state-can bits h = line-can true (codes "state") (word_of_bits bits ∷ []) refl (ap (λ x. x && true) (bits-word true bits h))
@@ -133,9 +141,12 @@ checks-can Parity P h = Can-map group_line GoodGroup P.groups group-can h
 checks-can Berger P h = Can-cons (check_line P.checks) [] (check-can P.checks h) refl
 checks-can MOutOfN P h = Can-cons (check_line P.checks) [] (check-can P.checks h) refl
 
+pub code_line-can : (version : ℕ) (code : Code) → (version ≡ 1) ⊎ (version ≡ 2) → can_be_written (code_line version code) ≡ true
+code_line-can version code h = line-can true (version_word version) (code_word code ∷ []) (version-can version h) (ap (λ x. x && true) (code-can code))
+
 pub plan-can : (P : NamedPlan) → GoodPlan P → Can (plan_lines P)
 plan-can P h = Can-cons (code_line P.version P.code) (check_lines P.code P ++ map state_line P.states)
-    (line-can true (version_word P.version) (code_word P.code ∷ []) (version-can P.version h.version) (ap (λ x. x && true) (code-can P.code)))
+    (code_line-can P.version P.code h.version)
     (Can-append (check_lines P.code P) (map state_line P.states) (checks-can P.code P h.checks)
     (Can-map state_line (λ bits. 1 ≤ length bits) P.states state-can h.states))
 
@@ -145,12 +156,13 @@ head-can N h =
     (ap₂ (λ x y. x && y) (line-can false (codes ".inputs") N.inputs refl (names-words false N.inputs h.inputs))
     (ap (λ x. x && true) (line-can false (codes ".outputs") N.outputs refl (names-words false N.outputs h.outputs))))
 
-pub layout-can : (N : Named) (plan : List WrittenLine) → GoodNet N → Can plan → Can (layout_with N plan)
-layout-can N plan h k =
-    Can-append (((head_lines N ++ plan) ++ map latch_line N.latches) ++ flat_map node_lines N.nodes) (end_line ∷ [])
-    (Can-append ((head_lines N ++ plan) ++ map latch_line N.latches) (flat_map node_lines N.nodes)
-    (Can-append (head_lines N ++ plan) (map latch_line N.latches)
+pub clocked-can : (clock : List (List ℕ)) (N : Named) (plan : List WrittenLine) → Names clock → GoodNet N → Can plan → Can (clocked_layout clock N plan)
+clocked-can clock N plan w h k =
+    let latches : List WrittenLine = map (clocked_latch_line clock) N.latches in
+    Can-append (((head_lines N ++ plan) ++ latches) ++ flat_map node_lines N.nodes) (end_line ∷ [])
+    (Can-append ((head_lines N ++ plan) ++ latches) (flat_map node_lines N.nodes)
+    (Can-append (head_lines N ++ plan) latches
     (Can-append (head_lines N) plan (head-can N h) k)
-    (Can-map latch_line GoodLatch N.latches latch-can h.latches))
+    (Can-map (clocked_latch_line clock) GoodLatch N.latches (latch-can clock w) h.latches))
     (Can-flat_map node_lines GoodNode N.nodes node-can h.nodes))
     refl

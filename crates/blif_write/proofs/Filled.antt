@@ -6,8 +6,11 @@ use Rattle.fault_secure.specs.declared.code.Code.{Code}
 use Rattle.fault_secure.specs.declared.code.Code.TheVariants.{Parity, Berger, MOutOfN}
 use Rattle.tsc_net.specs.Named.{Named, NamedNode}
 use Rattle.tsc_text.specs.Written.{WrittenLine}
-use Rattle.blif_write.specs.NamedPlan.{NamedPlan}
-use Rattle.blif_write.specs.Layout.{group_line, state_line, check_lines, plan_lines, latch_line, row_line, node_lines, head_lines, end_line, layout}
+use Rattle.blif_write.specs.NamedPlan.{NamedPlan, named_plan}
+use Rattle.tsc_net.specs.NetlistOf.{NetlistOf, names_of}
+use Rattle.fault_secure.specs.CodePlan.{CodePlan}
+use Rattle.blif_write.specs.Layout.{group_line, state_line, check_lines, code_lines, plan_lines, clocked_latch_line, row_line, node_lines, head_lines, end_line, clocked_layout, layout}
+use Rattle.blif_write.specs.RegisterText.{watch_line, watch_lines, register_plan_lines}
 
 -- the words begin with a byte, or stand behind the mark of a plan line
 abbrev pub Filled : Bool → List (List ℕ) → Type 0
@@ -50,12 +53,22 @@ checks-filled MOutOfN P = (tt, tt)
 plan-filled : (P : NamedPlan) → AllFilled (plan_lines P)
 plan-filled P = (tt, AllFilled-append (check_lines P.code P) (map state_line P.states) (checks-filled P.code P) (AllFilled-map state_line P.states (λ bits. tt)))
 
-pub layout-filled : (N : Named) (P : NamedPlan) → AllFilled (layout N P)
-layout-filled N P =
-    AllFilled-append (((head_lines N ++ plan_lines P) ++ map latch_line N.latches) ++ flat_map node_lines N.nodes) (end_line ∷ [])
-    (AllFilled-append ((head_lines N ++ plan_lines P) ++ map latch_line N.latches) (flat_map node_lines N.nodes)
-    (AllFilled-append (head_lines N ++ plan_lines P) (map latch_line N.latches)
-    (AllFilled-append (head_lines N) (plan_lines P) (tt, (tt, (tt, tt))) (plan-filled P))
-    (AllFilled-map latch_line N.latches (λ l. tt)))
+pub register_plan-filled : (net : NetlistOf) (P : CodePlan) (watches : List (List ℕ)) → AllFilled (register_plan_lines net P watches)
+register_plan-filled net P watches =
+    let N : NamedPlan = named_plan net P in
+    AllFilled-append (code_lines N) (watch_lines net watches) (tt, checks-filled N.code N)
+    (AllFilled-map (λ watched. watch_line (names_of net.names watched)) watches (λ watched. tt))
+
+pub clocked-filled : (clock : List (List ℕ)) (N : Named) (plan : List WrittenLine) → AllFilled plan → AllFilled (clocked_layout clock N plan)
+clocked-filled clock N plan h =
+    let latches : List WrittenLine = map (clocked_latch_line clock) N.latches in
+    AllFilled-append (((head_lines N ++ plan) ++ latches) ++ flat_map node_lines N.nodes) (end_line ∷ [])
+    (AllFilled-append ((head_lines N ++ plan) ++ latches) (flat_map node_lines N.nodes)
+    (AllFilled-append (head_lines N ++ plan) latches
+    (AllFilled-append (head_lines N) plan (tt, (tt, (tt, tt))) h)
+    (AllFilled-map (clocked_latch_line clock) N.latches (λ l. tt)))
     (AllFilled-flat_map node_lines N.nodes node-filled))
     (tt, tt)
+
+pub layout-filled : (N : Named) (P : NamedPlan) → AllFilled (layout N P)
+layout-filled N P = clocked-filled [] N (plan_lines P) (plan-filled P)

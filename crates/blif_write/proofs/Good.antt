@@ -84,7 +84,7 @@ pub record GoodPlan (P : NamedPlan) : Type 0 where
 name-with : (Good : List ℕ → Type 0) (net : NetlistOf) → IsBuilt net → All Good net.names → (i : ℕ) → i < nets net.circuit → Good (text_at net.names i)
 name-with Good net c w i h = let sized = c.sized in w i [] (omega (arith, sized))
 
-names-with : (Good : List ℕ → Type 0) (net : NetlistOf) → IsBuilt net → All Good net.names → (list : List ℕ) → All (λ i. i < nets net.circuit) list → Each Good (names_of net.names list)
+pub names-with : (Good : List ℕ → Type 0) (net : NetlistOf) → IsBuilt net → All Good net.names → (list : List ℕ) → All (λ i. i < nets net.circuit) list → Each Good (names_of net.names list)
 names-with Good net c w [] h = tt
 names-with Good net c w (i ∷ list) h =
     let Known : ℕ → Type 0 = λ i. i < nets net.circuit in
@@ -158,7 +158,7 @@ net-limited net c w = net-with IsShort IsLimited net c w.model.short (λ i d h. 
     (let n : IsWritableNode (get_or net.circuit.nodes j d) = w.each_node j d h in
     (n.pins, c.closed.widths j d h, recursion_from_All (λ row. length row ≡ (get_or net.circuit.nodes j d).cover.width) (get_or net.circuit.nodes j d).cover.rows n.rows)))
 
-outputs-good : (net : NetlistOf) → IsTellable net → IsBuilt net → (most : ℕ) → most ≤ length net.circuit.outputs → (places : List ℕ) → All (λ place. place < most) places → (check : ℕ) → check < nets net.circuit → Names (named_group net places check)
+pub outputs-good : (net : NetlistOf) → IsTellable net → IsBuilt net → (most : ℕ) → most ≤ length net.circuit.outputs → (places : List ℕ) → All (λ place. place < most) places → (check : ℕ) → check < nets net.circuit → Names (named_group net places check)
 outputs-good net w c most few [] h check k = (name-with IsWordName net c w.names check k, tt)
 outputs-good net w c most few (place ∷ places) h check k =
     let Low : ℕ → Type 0 = λ place. place < most in

@@ -3,12 +3,15 @@ pub mod After
 pub mod Filled
 pub mod NetFacts
 pub mod PlanFacts
+pub mod RegisterNets
 pub mod Pins
 pub mod Good
 pub mod CanBeWritten
 pub mod LineKinds
 pub mod ReadBack
 pub mod Told
+pub mod ClockBack
+pub mod RegistersTold
 pub mod LimitsAlone
 pub mod ReadLaw
 pub mod NoFault

@@ -4,7 +4,7 @@ use Rattle.std.proofs.lemmas.List.Elements.{All-nil, All-cons, All-head, All-tai
 use Rattle.std.specs.declared.alloc.AllocError.{AllocError}
 use Rattle.tsc_bits.specs.Bits.{bits_of}
 use Rattle.fault_secure.specs.Circuit.{Circuit, nets}
-use Rattle.fault_secure.specs.CodePlan.{CodePlan, concat_places, HasShape, HasGroups, IsPlanOf, IsWellMade}
+use Rattle.fault_secure.specs.CodePlan.{CodePlan, concat_places, HasShape, HasGroups, IsWellMade}
 use Rattle.tsc_net.specs.NetlistOf.{NetlistOf}
 use Rattle.tsc_net.specs.PlanView.{net_numbers, plan_of, KeepsRules}
 use Rattle.fault_secure.specs.declared.code.Code.{Code}
@@ -36,17 +36,16 @@ groups-fit C (group ∷ groups) outputs few places checks =
     (all_right Within group.places (concat_places (places_of groups)) places)
     (All-tail Known group.check.number (net_numbers (checks_of groups)) checks))
 
--- under parity the groups of a plan that is of the circuit fit it
-pub plan-groups-fit : (C : Circuit) (p : Inside) (P : CodePlan) → plan_of p ≡ P → p.code ≡ Parity → KeepsRules p → IsPlanOf C P → All (FitsGroup C) p.groups
-plan-groups-fit C p P e code rules of_net =
-    let IsOf : CodePlan → Type 0 = λ Q. IsPlanOf C Q in
-    let own : IsPlanOf C (plan_of p) = subst IsOf (sym e) of_net in
+-- under parity the groups of a plan fit the circuit, where it has the plan's outputs and checks
+pub plan-groups-fit : (C : Circuit) (p : Inside) (P : CodePlan) → plan_of p ≡ P → p.code ≡ Parity → KeepsRules p → P.outputs ≤ length C.outputs → All (λ net. net < nets C) P.checks → All (FitsGroup C) p.groups
+plan-groups-fit C p P e code rules few known =
+    let Few : CodePlan → Type 0 = λ Q. Q.outputs ≤ length C.outputs in
+    let Checked : CodePlan → Type 0 = λ Q. All (λ net. net < nets C) Q.checks in
     let Shaped : Code → Type 0 = λ c. HasShape c (plan_of p) in
     let shape : HasGroups (plan_of p) = subst Shaped code rules.well_made.shape in
     let Known : List NetId → Type 0 = λ list. All (λ net. net < nets C) (net_numbers list) in
-    let checks : Known (checks_of p.groups) = subst Known (sym (rules.same_checks code)) own.checks in
-    let count = own.outputs in
-    groups-fit C p.groups p.outputs (omega (arith, count)) shape.within checks
+    let checks : Known (checks_of p.groups) = subst Known (sym (rules.same_checks code)) (subst Checked (sym e) known) in
+    groups-fit C p.groups p.outputs (subst Few (sym e) few) shape.within checks
 
 group-lines : (net : NetlistOf) (groups : List Group) → map group_line (named_groups net (places_of groups) (net_numbers (checks_of groups))) ≡ map (line_of_group net) groups
 group-lines net [] = refl
@@ -62,6 +61,10 @@ check_lines-parity net p code checks =
 pub state_lines-words : (width : ℕ) (words : List ℕ) → map state_line (map (bits_of width) words) ≡ map (line_of_state width) words
 state_lines-words width [] = refl
 state_lines-words width (word ∷ words) = ap (λ lines. line_of_state width word ∷ lines) (state_lines-words width words)
+
+pub on-ok : {A : Type 0} (r : Result (Unit {0}) AllocError) → A → OnOk r A
+on-ok (Ok _) a = a
+on-ok (Err _) a = tt
 
 pub made-on-ok : (r : Result (Unit {0}) AllocError) (p : Inside) (P : CodePlan) → plan_of p ≡ P → IsWellMade (plan_of p) → OnOk r (IsWellMade P)
 made-on-ok (Ok _) p P e h = subst IsWellMade e h

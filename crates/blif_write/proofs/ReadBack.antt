@@ -12,7 +12,7 @@ use Rattle.tsc_net.specs.Named.{Named, NamedLatch, NamedNode}
 use Rattle.blif_read.specs.LineKind.{pins_of, net_of, width_of, name_count}
 use Rattle.blif_read.specs.Rows.{rows_of, rows_at, cover_with, is_on_set, input_of}
 use Rattle.blif_read.specs.NamedText.{named_text, model_or, inputs_of, outputs_of, latches_of, latch_at, nodes_of, node_at}
-use Rattle.blif_write.specs.Layout.{bit_character, latch_line, names_line, row_line, row_lines, node_lines, section_with}
+use Rattle.blif_write.specs.Layout.{bit_character, clocked_latch_line, latch_line, names_line, row_line, row_lines, node_lines, clocked_section}
 use Rattle.blif_write.proofs.Good.{GoodNode, GoodNet}
 use Rattle.blif_write.proofs.LineKinds.{at, AreKinds, is_body, is_no_latch, is_no_node, AreKinds-append, AreKinds-map, inputs_of-body, outputs_of-body, model_or-body, latches_of-none, nodes_of-none, kind-row, kinds-plan, kinds-rows, kinds-nodes}
 use Rattle.blif_read.proofs.PlanMade.{get_or-last}
@@ -89,70 +89,90 @@ nodes-read (x ∷ nodes) h n =
     (nodes_of-none (n + 1) rows rest (kinds-rows is_no_node refl x.cover.on x.cover.rows) ∙ nodes-read nodes h.1 (n + 1 + length rows))
 
 -- the latches
-latch-read : (l : NamedLatch) (n : ℕ) → latch_at (at n (latch_line l)) ≡ l
-latch-read l n = ap (λ (b : Bool). record { reads = l.reads; out = l.out; init = b }) (init-read l.init)
+latch-read : (clock : List (List ℕ)) (l : NamedLatch) (n : ℕ) → latch_at (at n (clocked_latch_line clock l)) ≡ l
+latch-read clock l n =
+    let init : List ℕ = bit_character l.init ∷ [] in
+    let words : List (List ℕ) = (at n (clocked_latch_line clock l)).words in
+    let count = length-append clock (init ∷ []) in
+    let last : length words - 1 ≡ length (codes ".latch" ∷ l.reads ∷ l.out ∷ clock) = omega arith in
+    let word : get_or words (length words - 1) [] ≡ init = ap (λ m. get_or words m []) last ∙ get_or-last (codes ".latch" ∷ l.reads ∷ l.out ∷ clock) init in
+    ap (λ (b : Bool). record { reads = l.reads; out = l.out; init = b }) (ap (λ w. bytes_eq w (codes "1")) word ∙ init-read l.init)
   where
     init-read : (b : Bool) → bytes_eq (bit_character b ∷ []) (codes "1") ≡ b
     init-read true = refl
     init-read false = refl
 
-latches-read : (latches : List NamedLatch) (n : ℕ) (rest : List TextLine) → latches_of (numbered n (map latch_line latches) ++ rest) ≡ latches ++ latches_of rest
-latches-read [] n rest = refl
-latches-read (l ∷ latches) n rest = ap₂ (λ x xs. x ∷ xs) (latch-read l n) (latches-read latches (n + 1) rest)
+latches-read : (clock : List (List ℕ)) (latches : List NamedLatch) (n : ℕ) (rest : List TextLine) → latches_of (numbered n (map (clocked_latch_line clock) latches) ++ rest) ≡ latches ++ latches_of rest
+latches-read clock [] n rest = refl
+latches-read clock (l ∷ latches) n rest = ap₂ (λ x xs. x ∷ xs) (latch-read clock l n) (latches-read clock latches (n + 1) rest)
 
--- what stands behind the first three lines
+-- what stands after the first three lines
+abbrev pub clocked-tail : List (List ℕ) → Named → List WrittenLine → List WrittenLine
+clocked-tail clock N plan = (plan ++ map (clocked_latch_line clock) N.latches) ++ flat_map node_lines N.nodes
+
 abbrev pub tail : Named → List WrittenLine → List WrittenLine
-tail N plan = (plan ++ map latch_line N.latches) ++ flat_map node_lines N.nodes
+tail N plan = clocked-tail [] N plan
 
-tail-body : (N : Named) (plan : List WrittenLine) → Each (λ w. w.is_plan ≡ true) plan → AreKinds is_body (tail N plan)
-tail-body N plan h = AreKinds-append is_body (plan ++ map latch_line N.latches) (flat_map node_lines N.nodes)
-    (AreKinds-append is_body plan (map latch_line N.latches) (kinds-plan is_body refl plan h) (AreKinds-map is_body latch_line N.latches (λ _. refl)))
+tail-body : (clock : List (List ℕ)) (N : Named) (plan : List WrittenLine) → Each (λ w. w.is_plan ≡ true) plan → AreKinds is_body (clocked-tail clock N plan)
+tail-body clock N plan h =
+    let latches : List WrittenLine = map (clocked_latch_line clock) N.latches in
+    AreKinds-append is_body (plan ++ latches) (flat_map node_lines N.nodes)
+    (AreKinds-append is_body plan latches (kinds-plan is_body refl plan h) (AreKinds-map is_body (clocked_latch_line clock) N.latches (λ _. refl)))
     (kinds-nodes is_body refl refl N.nodes)
 
 -- the three parts of it
+pub clocked-split : (clock : List (List ℕ)) (N : Named) (plan : List WrittenLine) → numbered 4 (clocked-tail clock N plan)
+    ≡ numbered 4 plan ++ (numbered (4 + length plan) (map (clocked_latch_line clock) N.latches) ++ numbered (4 + length (plan ++ map (clocked_latch_line clock) N.latches)) (flat_map node_lines N.nodes))
+clocked-split clock N plan =
+    let latches : List WrittenLine = map (clocked_latch_line clock) N.latches in
+    let nodes : List TextLine = numbered (4 + length (plan ++ latches)) (flat_map node_lines N.nodes) in
+    numbered-append 4 (plan ++ latches) (flat_map node_lines N.nodes)
+    ∙ ap (λ lines. lines ++ nodes) (numbered-append 4 plan latches)
+    ∙ append_assoc (numbered 4 plan) (numbered (4 + length plan) latches) nodes
+
 pub tail-split : (N : Named) (plan : List WrittenLine) → numbered 4 (tail N plan)
     ≡ numbered 4 plan ++ (numbered (4 + length plan) (map latch_line N.latches) ++ numbered (4 + length (plan ++ map latch_line N.latches)) (flat_map node_lines N.nodes))
-tail-split N plan =
-    let nodes : List TextLine = numbered (4 + length (plan ++ map latch_line N.latches)) (flat_map node_lines N.nodes) in
-    numbered-append 4 (plan ++ map latch_line N.latches) (flat_map node_lines N.nodes)
-    ∙ ap (λ lines. lines ++ nodes) (numbered-append 4 plan (map latch_line N.latches))
-    ∙ append_assoc (numbered 4 plan) (numbered (4 + length plan) (map latch_line N.latches)) nodes
+tail-split N plan = clocked-split [] N plan
 
 nodes-no-latch : (n : ℕ) (nodes : List NamedNode) → latches_of (numbered n (flat_map node_lines nodes)) ≡ []
 nodes-no-latch n nodes = sym (ap latches_of (append-nil (numbered n (flat_map node_lines nodes))))
     ∙ latches_of-none n (flat_map node_lines nodes) [] (kinds-nodes is_no_latch refl refl nodes)
 
-tail-latches : (N : Named) (plan : List WrittenLine) → Each (λ w. w.is_plan ≡ true) plan → latches_of (numbered 4 (tail N plan)) ≡ N.latches
-tail-latches N plan h =
+tail-latches : (clock : List (List ℕ)) (N : Named) (plan : List WrittenLine) → Each (λ w. w.is_plan ≡ true) plan → latches_of (numbered 4 (clocked-tail clock N plan)) ≡ N.latches
+tail-latches clock N plan h =
+    let latches : List WrittenLine = map (clocked_latch_line clock) N.latches in
     let m : ℕ = 4 + length plan in
-    let k : ℕ = 4 + length (plan ++ map latch_line N.latches) in
+    let k : ℕ = 4 + length (plan ++ latches) in
     let nodes : List TextLine = numbered k (flat_map node_lines N.nodes) in
-    ap latches_of (tail-split N plan)
-    ∙ latches_of-none 4 plan (numbered m (map latch_line N.latches) ++ nodes) (kinds-plan is_no_latch refl plan h)
-    ∙ latches-read N.latches m nodes
+    ap latches_of (clocked-split clock N plan)
+    ∙ latches_of-none 4 plan (numbered m latches ++ nodes) (kinds-plan is_no_latch refl plan h)
+    ∙ latches-read clock N.latches m nodes
     ∙ ap (λ latches. N.latches ++ latches) (nodes-no-latch k N.nodes)
     ∙ append-nil N.latches
 
-tail-nodes : (N : Named) (plan : List WrittenLine) → Each (λ w. w.is_plan ≡ true) plan → GoodNet N → nodes_of (numbered 4 (tail N plan)) ≡ N.nodes
-tail-nodes N plan h good =
+tail-nodes : (clock : List (List ℕ)) (N : Named) (plan : List WrittenLine) → Each (λ w. w.is_plan ≡ true) plan → GoodNet N → nodes_of (numbered 4 (clocked-tail clock N plan)) ≡ N.nodes
+tail-nodes clock N plan h good =
+    let latches : List WrittenLine = map (clocked_latch_line clock) N.latches in
     let m : ℕ = 4 + length plan in
-    let k : ℕ = 4 + length (plan ++ map latch_line N.latches) in
+    let k : ℕ = 4 + length (plan ++ latches) in
     let nodes : List TextLine = numbered k (flat_map node_lines N.nodes) in
-    ap nodes_of (tail-split N plan)
-    ∙ nodes_of-none 4 plan (numbered m (map latch_line N.latches) ++ nodes) (kinds-plan is_no_node refl plan h)
-    ∙ nodes_of-none m (map latch_line N.latches) nodes (AreKinds-map is_no_node latch_line N.latches (λ _. refl))
+    ap nodes_of (clocked-split clock N plan)
+    ∙ nodes_of-none 4 plan (numbered m latches ++ nodes) (kinds-plan is_no_node refl plan h)
+    ∙ nodes_of-none m latches nodes (AreKinds-map is_no_node (clocked_latch_line clock) N.latches (λ _. refl))
     ∙ nodes-read N.nodes good.nodes k
 
 abbrev named-with : List ℕ → List (List ℕ) → List (List ℕ) → List NamedLatch → List NamedNode → Named
 named-with model inputs outputs latches nodes = record { model = model; inputs = inputs; outputs = outputs; latches = latches; nodes = nodes }
 
 -- the lines before `.end` denote the netlist
-pub named-read : (N : Named) (plan : List WrittenLine) → Each (λ w. w.is_plan ≡ true) plan → GoodNet N → named_text (numbered 1 (section_with N plan)) ≡ N
-named-read N plan h good =
-    let lines : List TextLine = numbered 4 (tail N plan) in
-    let model : model_or N.model lines ≡ N.model = model_or-body N.model 4 (tail N plan) (tail-body N plan h) in
-    let inputs : N.inputs ++ inputs_of lines ≡ N.inputs = ap (λ more. N.inputs ++ more) (inputs_of-body 4 (tail N plan) (tail-body N plan h)) ∙ append-nil N.inputs in
-    let outputs : N.outputs ++ outputs_of lines ≡ N.outputs = ap (λ more. N.outputs ++ more) (outputs_of-body 4 (tail N plan) (tail-body N plan h)) ∙ append-nil N.outputs in
+pub named-read : (clock : List (List ℕ)) (N : Named) (plan : List WrittenLine) → Each (λ w. w.is_plan ≡ true) plan → GoodNet N → named_text (numbered 1 (clocked_section clock N plan)) ≡ N
+named-read clock N plan h good =
+    let rest : List WrittenLine = clocked-tail clock N plan in
+    let lines : List TextLine = numbered 4 rest in
+    let body : AreKinds is_body rest = tail-body clock N plan h in
+    let model : model_or N.model lines ≡ N.model = model_or-body N.model 4 rest body in
+    let inputs : N.inputs ++ inputs_of lines ≡ N.inputs = ap (λ more. N.inputs ++ more) (inputs_of-body 4 rest body) ∙ append-nil N.inputs in
+    let outputs : N.outputs ++ outputs_of lines ≡ N.outputs = ap (λ more. N.outputs ++ more) (outputs_of-body 4 rest body) ∙ append-nil N.outputs in
     ap₂ (λ m i. named-with m i (N.outputs ++ outputs_of lines) (latches_of lines) (nodes_of lines)) model inputs
-    ∙ ap₂ (λ o l. named-with N.model N.inputs o l (nodes_of lines)) outputs (tail-latches N plan h)
-    ∙ ap (λ n. named-with N.model N.inputs N.outputs N.latches n) (tail-nodes N plan h good)
+    ∙ ap₂ (λ o l. named-with N.model N.inputs o l (nodes_of lines)) outputs (tail-latches clock N plan h)
+    ∙ ap (λ n. named-with N.model N.inputs N.outputs N.latches n) (tail-nodes clock N plan h good)

@@ -15,7 +15,7 @@ use Rattle.tsc_net.specs.Named.{Named}
 use Rattle.blif_read.specs.LineKind.{kind_of_word}
 use Rattle.blif_read.specs.declared.kinds.LineKind.{LineKind}
 use Rattle.blif_read.specs.declared.kinds.LineKind.TheVariants.{PlanLine, OtherDirective}
-use Rattle.blif_write.specs.Layout.{latch_line, node_lines, end_line, section_with, layout_with}
+use Rattle.blif_write.specs.Layout.{clocked_latch_line, node_lines, end_line, clocked_section, clocked_layout}
 use Rattle.blif_write.proofs.LineKinds.{at, kind_written, AreKinds, AreKinds-append, AreKinds-map, kinds-plan, kinds-nodes}
 use Rattle.tsc_text.proofs.AllowedTexts.{numbered-append}
 
@@ -30,9 +30,11 @@ known-is-no-end false word h = by_test (bytes_eq word (codes ".end")) (λ v. not
     let bad : false ≡ true = subst Known (bytes_eq_same word (codes ".end") e) h in cc)
     (λ e. refl)
 
-section-known : (N : Named) (plan : List WrittenLine) → Each (λ w. w.is_plan ≡ true) plan → AreKinds is_known (section_with N plan)
-section-known N plan h = AreKinds-append is_known (plan ++ map latch_line N.latches) (flat_map node_lines N.nodes)
-    (AreKinds-append is_known plan (map latch_line N.latches) (kinds-plan is_known refl plan h) (AreKinds-map is_known latch_line N.latches (λ _. refl)))
+section-known : (clock : List (List ℕ)) (N : Named) (plan : List WrittenLine) → Each (λ w. w.is_plan ≡ true) plan → AreKinds is_known (clocked_section clock N plan)
+section-known clock N plan h =
+    let latches : List WrittenLine = map (clocked_latch_line clock) N.latches in
+    AreKinds-append is_known (plan ++ latches) (flat_map node_lines N.nodes)
+    (AreKinds-append is_known plan latches (kinds-plan is_known refl plan h) (AreKinds-map is_known (clocked_latch_line clock) N.latches (λ _. refl)))
     (kinds-nodes is_known refl refl N.nodes)
 
 end-behind : (n : ℕ) (ws : List WrittenLine) → AreKinds is_known ws → position_or_len (is_end_line Blif) (numbered n (ws ++ end_line ∷ [])) ≡ length ws
@@ -48,24 +50,25 @@ length-numbered n [] = refl
 length-numbered n (w ∷ ws) = ap suc (length-numbered (n + 1) ws)
 
 -- the section of a layout ends where `.end` stands
-end-found : (N : Named) (plan : List WrittenLine) → Each (λ w. w.is_plan ≡ true) plan → end_of (numbered 1 (layout_with N plan)) 0 Blif ≡ length (section_with N plan)
-end-found N plan h = let found = end-behind 1 (section_with N plan) (section-known N plan h) in omega (arith, found)
+end-found : (clock : List (List ℕ)) (N : Named) (plan : List WrittenLine) → Each (λ w. w.is_plan ≡ true) plan → end_of (numbered 1 (clocked_layout clock N plan)) 0 Blif ≡ length (clocked_section clock N plan)
+end-found clock N plan h = let found = end-behind 1 (clocked_section clock N plan) (section-known clock N plan h) in omega (arith, found)
 
 -- the section of a layout has the lines before `.end`
-pub section-read : (N : Named) (plan : List WrittenLine) → Each (λ w. w.is_plan ≡ true) plan → slice_range (numbered 1 (layout_with N plan)) 0 (end_of (numbered 1 (layout_with N plan)) 0 Blif) ≡ numbered 1 (section_with N plan)
-section-read N plan h =
-    let lines : List WrittenLine = section_with N plan in
-    let place : end_of (numbered 1 (layout_with N plan)) 0 Blif - 0 ≡ length lines = (let found = end-found N plan h in omega (arith, found)) in
+pub section-read : (clock : List (List ℕ)) (N : Named) (plan : List WrittenLine) → Each (λ w. w.is_plan ≡ true) plan → slice_range (numbered 1 (clocked_layout clock N plan)) 0 (end_of (numbered 1 (clocked_layout clock N plan)) 0 Blif) ≡ numbered 1 (clocked_section clock N plan)
+section-read clock N plan h =
+    let lines : List WrittenLine = clocked_section clock N plan in
+    let place : end_of (numbered 1 (clocked_layout clock N plan)) 0 Blif - 0 ≡ length lines = (let found = end-found clock N plan h in omega (arith, found)) in
     ap (λ m. take m (numbered 1 (lines ++ end_line ∷ []))) place
     ∙ ap (take (length lines)) (numbered-append 1 lines (end_line ∷ []))
     ∙ take_at (numbered 1 lines) (numbered (1 + length lines) (end_line ∷ [])) (length lines) (length-numbered 1 lines)
 
 -- nothing stands behind it
-pub section-ends : (N : Named) (plan : List WrittenLine) → Each (λ w. w.is_plan ≡ true) plan → (section_of (numbered 1 (layout_with N plan)) 0 Blif).next ≡ length (numbered 1 (layout_with N plan))
-section-ends N plan h =
-    let lines : List WrittenLine = section_with N plan in
-    let many : length (numbered 1 (layout_with N plan)) ≡ length lines + 1 = length-numbered 1 (layout_with N plan) ∙ length_push lines end_line in
-    let past : nat_lt (length lines) (length (numbered 1 (layout_with N plan))) ≡ true = lt-ltb (length lines) (length (numbered 1 (layout_with N plan))) (omega arith) in
-    ap (λ past. cond (nat_lt past (length (numbered 1 (layout_with N plan)))) (past + 1) past) (end-found N plan h)
+pub section-ends : (clock : List (List ℕ)) (N : Named) (plan : List WrittenLine) → Each (λ w. w.is_plan ≡ true) plan → (section_of (numbered 1 (clocked_layout clock N plan)) 0 Blif).next ≡ length (numbered 1 (clocked_layout clock N plan))
+section-ends clock N plan h =
+    let lines : List WrittenLine = clocked_section clock N plan in
+    let all : List WrittenLine = clocked_layout clock N plan in
+    let many : length (numbered 1 all) ≡ length lines + 1 = length-numbered 1 all ∙ length_push lines end_line in
+    let past : nat_lt (length lines) (length (numbered 1 all)) ≡ true = lt-ltb (length lines) (length (numbered 1 all)) (omega arith) in
+    ap (λ past. cond (nat_lt past (length (numbered 1 all))) (past + 1) past) (end-found clock N plan h)
     ∙ ap (λ (b : Bool). cond b (length lines + 1) (length lines)) past
     ∙ sym many

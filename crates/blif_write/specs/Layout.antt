@@ -68,13 +68,21 @@ check_lines Parity P = map group_line P.groups
 check_lines Berger P = check_line P.checks ∷ []
 check_lines MOutOfN P = check_line P.checks ∷ []
 
+-- the code line, and the lines that name the checks
+abbrev pub code_lines : NamedPlan → List WrittenLine
+code_lines P = code_line P.version P.code ∷ check_lines P.code P
+
 -- the plan lines
 abbrev pub plan_lines : NamedPlan → List WrittenLine
-plan_lines P = (code_line P.version P.code ∷ check_lines P.code P) ++ map state_line P.states
+plan_lines P = code_lines P ++ map state_line P.states
+
+-- `.latch READS OUT CLOCK INIT`, where the words of the clock are its type and its control, or none
+abbrev pub clocked_latch_line : List (List ℕ) → NamedLatch → WrittenLine
+clocked_latch_line clock l = line_of_words (codes ".latch" ∷ l.reads ∷ l.out ∷ (clock ++ (bit_character l.init ∷ []) ∷ []))
 
 -- `.latch READS OUT INIT`
 abbrev pub latch_line : NamedLatch → WrittenLine
-latch_line l = line_of_words (codes ".latch" ∷ l.reads ∷ l.out ∷ (bit_character l.init ∷ []) ∷ [])
+latch_line l = clocked_latch_line [] l
 
 -- `.names PINS NET`
 abbrev pub names_line : NamedNode → WrittenLine
@@ -101,25 +109,37 @@ end_line = line_of_words (codes ".end" ∷ [])
 abbrev pub head_lines : Named → List WrittenLine
 head_lines N = model_line N.model ∷ inputs_line N.inputs ∷ outputs_line N.outputs ∷ []
 
--- the lines before `.end`, with plan lines after the head, or with none
+-- the lines before `.end`, with plan lines after the head, or with none, and with the words of a clock in the lines of latches
+abbrev pub clocked_section : List (List ℕ) → Named → List WrittenLine → List WrittenLine
+clocked_section clock N plan = ((head_lines N ++ plan) ++ map (clocked_latch_line clock) N.latches) ++ flat_map node_lines N.nodes
+
+-- those without a clock
 abbrev pub section_with : Named → List WrittenLine → List WrittenLine
-section_with N plan = ((head_lines N ++ plan) ++ map latch_line N.latches) ++ flat_map node_lines N.nodes
+section_with N plan = clocked_section [] N plan
 
 -- those of a netlist with its plan
 abbrev pub section_lines : Named → NamedPlan → List WrittenLine
 section_lines N P = section_with N (plan_lines P)
 
 -- all lines
+abbrev pub clocked_layout : List (List ℕ) → Named → List WrittenLine → List WrittenLine
+clocked_layout clock N plan = clocked_section clock N plan ++ end_line ∷ []
+
+-- those without a clock
 abbrev pub layout_with : Named → List WrittenLine → List WrittenLine
-layout_with N plan = section_with N plan ++ end_line ∷ []
+layout_with N plan = clocked_layout [] N plan
 
 -- all lines of a netlist with its plan
 abbrev pub layout : Named → NamedPlan → List WrittenLine
 layout N P = layout_with N (plan_lines P)
 
--- the text of a netlist with plan lines, or with none
+-- the text of a netlist with plan lines, or with none, and with the words of a clock
+abbrev pub clocked_text : List (List ℕ) → NetlistOf → List WrittenLine → List ℕ
+clocked_text clock net plan = text_of (clocked_layout clock (named_of net) plan)
+
+-- the text without a clock
 abbrev pub text_with : NetlistOf → List WrittenLine → List ℕ
-text_with net plan = text_of (layout_with (named_of net) plan)
+text_with net plan = clocked_text [] net plan
 
 -- the text of a netlist with its plan
 abbrev pub netlist_text : NetlistOf → CodePlan → List ℕ

@@ -1,6 +1,7 @@
 pub mod Examples
 pub mod Layout
 pub mod NamedPlan
+pub mod RegisterText
 pub mod NetLines
 pub mod Steps
 pub mod Writable

@@ -1,10 +1,10 @@
 //! The plan lines.
-ghost use Rattle.std.specs.Prelude.{◌≡◌, ◌≤◌, ◌⊎◌, ◌++◌, OnOk, All, map};
+ghost use Rattle.std.specs.Prelude.{◌≡◌, ◌≤◌, ◌⊎◌, ◌++◌, OnOk, All, length, map};
 ghost use Rattle.tsc_bits.specs.Bits.{bits_of};
 ghost use Rattle.fault_secure.specs.CodePlan.{IsPlanOf, IsWellMade};
 ghost use Rattle.tsc_net.specs.NetlistOf.{IsBuilt, names_of};
 ghost use Rattle.tsc_net.specs.PlanView.{net_numbers};
-ghost use Rattle.blif_write.specs.Layout.{word_of_bits, code_word, code_line, check_line, check_lines, plan_lines};
+ghost use Rattle.blif_write.specs.Layout.{word_of_bits, code_word, code_line, check_line, check_lines, code_lines, plan_lines};
 ghost use Rattle.blif_write.specs.NamedPlan.{named_plan};
 ghost use Rattle.blif_write.specs.NetLines.{AreNets, FitsGroup, line_of_group, line_of_state};
 ghost use Rattle.blif_write.specs.Steps.{after_line, after_lines};
@@ -23,9 +23,20 @@ pub fn push_plan(out: &mut Bytes, net: &Netlist, plan: &Plan) -> Result<(), Allo
     ensures lines { OnOk result (out.new ≡ after_lines out.old (plan_lines (named_plan net.now plan.now))) }
     ensures well_made { OnOk result (IsWellMade plan.now) }
 {
-    push_code_line(out, plan.version, plan.code)?;
-    push_check_lines(out, net, plan)?;
+    push_code_lines(out, net, plan)?;
     push_states(out, plan.states.as_slice(), plan.states.width())
+}
+
+/// Adds the code line, and the lines that name the checks.
+pub fn push_code_lines(out: &mut Bytes, net: &Netlist, plan: &Plan) -> Result<(), AllocError>
+    requires checked { IsBuilt net.now }
+    requires shown { plan.now.outputs ≤ length net.now.circuit.outputs }
+    requires known { AreNets net.now.circuit plan.now.checks }
+    ensures lines { OnOk result (out.new ≡ after_lines out.old (code_lines (named_plan net.now plan.now))) }
+    ensures well_made { OnOk result (IsWellMade plan.now) }
+{
+    push_code_line(out, plan.version, plan.code)?;
+    push_check_lines(out, net, plan)
 }
 
 /// The word of a code.
@@ -53,7 +64,8 @@ fn push_code_line(out: &mut Bytes, version: u8, code: Code) -> Result<(), AllocE
 /// Adds the lines that name the checks: for parity one line per group, else one line.
 fn push_check_lines(out: &mut Bytes, net: &Netlist, plan: &Plan) -> Result<(), AllocError>
     requires checked { IsBuilt net.now }
-    requires of_net { IsPlanOf net.now.circuit plan.now }
+    requires shown { plan.now.outputs ≤ length net.now.circuit.outputs }
+    requires known { AreNets net.now.circuit plan.now.checks }
     ensures lines { OnOk result (out.new ≡ after_lines out.old (check_lines plan.now.code (named_plan net.now plan.now))) }
 {
     match plan.code {

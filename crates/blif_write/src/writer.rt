@@ -30,14 +30,14 @@ pub fn write_blif(alloc: Global, net: &Netlist, plan: &Plan) -> Result<Bytes, Al
     let mut out = Bytes::new(alloc);
     push_head(&mut out, net)?;
     push_plan(&mut out, net, plan)?;
-    push_latches(&mut out, net)?;
+    push_latches(&mut out, net, &None)?;
     push_nodes(&mut out, net)?;
     push_end_line(&mut out)?;
     Ok(out)
 }
 
 /// Adds the last line.
-fn push_end_line(out: &mut Bytes) -> Result<(), AllocError>
+pub fn push_end_line(out: &mut Bytes) -> Result<(), AllocError>
     ensures line { OnOk result (out.new ≡ after_line out.old end_line) }
 {
     out.append(b".end")?;

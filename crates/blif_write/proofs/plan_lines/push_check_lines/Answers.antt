@@ -13,7 +13,7 @@ pub push_groups-requires-clause-fit : goal.push_groups-requires-clause-fit
 push_groups-requires-clause-fit c =
     let Fit : List Group → Type 0 = λ groups. All (FitsGroup c.args.net.now.circuit) groups in
     subst Fit (sym c.as_slice.ensures.whole)
-    (plan-groups-fit c.args.net.now.circuit c.plan.inside c.args.plan.now c.plan.view_is c.in-Parity.is c.plan.invariant c.requires.of_net)
+    (plan-groups-fit c.args.net.now.circuit c.plan.inside c.args.plan.now c.plan.view_is c.in-Parity.is c.plan.invariant c.requires.shown c.requires.known)
 
 pub returns-in-Parity : goal.returns-in-Parity
 returns-in-Parity c =
