@@ -1,11 +1,14 @@
 //! Synthesis of a BLIF text, which two copies take with registers too.
 ghost use Rattle.std.specs.Prelude.{◌≡◌, ◌≤◌, ℕ, List, None, length, IfOk, IfErr, OnOk};
+ghost use Rattle.std.specs.Option.{option_map};
+ghost use Rattle.blif_write.specs.Told.{IsTellable, IsToldClock};
 ghost use Rattle.blif_write.specs.Writable.{IsWritable};
 ghost use Rattle.synth_ways.specs.declared.way.Way.TheVariants.{Duplex};
 ghost use Rattle.tsc_bits.specs.Lists.{AreApart};
+ghost use Rattle.tsc_net.specs.PlanView.{net_numbers};
 ghost use Rattle.tsc_synth.specs.CoverBound.{is_too_large, is_too_large_twin};
 ghost use Rattle.answers.specs.Answers.{IsBlifSynthesis, IsSynthesis};
-ghost use Rattle.answers.specs.TwinAnswers.{IsRegisterSynthesis, IsTwinAnswer};
+ghost use Rattle.answers.specs.TwinAnswers.{control_of, IsRegisterSynthesis, IsTwinAnswer, IsTwinFor};
 ghost use Rattle.answers.specs.Refused.{blif_refusal, size_refusal, twin_refusal};
 ghost use Rattle.text_sections.specs.Denoted.{clock_in, netlist_in};
 ghost use Rattle.text_sections.specs.Refused.{IsRefusedBy};
@@ -20,6 +23,7 @@ use text_sections::read_registers;
 use tsc_io::Bytes;
 use tsc_net::Netlist;
 use tsc_synth::{SynthError, synth_registers};
+use twin_synth::TwinNetlist;
 
 /// The text of a netlist, made in some way, that is secure for the network that `text` denotes; of two copies also for one with registers.
 pub fn synth_blif(alloc: Global, way: Way, text: &Bytes) -> Result<Bytes, Refusal>
@@ -74,17 +78,42 @@ fn registers_text(alloc: Global, watching: bool, source: &BlifText) -> Result<By
     requires latches { length source.now.net.circuit.latches ≤ 16384 }
     requires few { length source.now.net.circuit.outputs ≤ 64 }
     requires once { AreApart source.now.net.circuit.outputs }
+    requires tellable { IsTellable source.now.net }
+    requires told { IsToldClock source.now.clock }
     ensures answers { (text : List ℕ) → netlist_in text ≡ source.now.net → clock_in text ≡ source.now.clock → IfOk result (IsRegisterSynthesis watching text) }
     ensures fits { OnOk result (size_refusal (is_too_large_twin watching source.now.net.circuit) ≡ None) }
     ensures refused { IfErr result (IsRefusedBy (size_refusal (is_too_large_twin watching source.now.net.circuit))) }
 {
-    let clock = source.clock.as_ref();
-    match synth_registers(alloc, &source.net, clock.map(name_of), watching) {
+    let made = twin_of(alloc, watching, source)?;
+    match write_registers(
+        alloc,
+        &made.net,
+        &made.plan,
+        made.watch.as_slice(),
+        &source.clock,
+    ) {
+        Ok(bytes) => Ok(bytes),
+        Err(error) => Err(Refusal::Memory(error)),
+    }
+}
+
+/// The netlist of two copies of a source with registers, and its plan. A text tells it, since one tells the source.
+fn twin_of(alloc: Global, watching: bool, source: &BlifText) -> Result<TwinNetlist, Refusal>
+    requires latches { length source.now.net.circuit.latches ≤ 16384 }
+    requires few { length source.now.net.circuit.outputs ≤ 64 }
+    requires once { AreApart source.now.net.circuit.outputs }
+    requires tellable { IsTellable source.now.net }
+    ensures secure { IfOk result (λ t. IsTwinFor watching source.now.net (control_of source.now.clock) t.net t.plan (net_numbers t.watch)) }
+    ensures tellable { IfOk result (λ t. IsTellable t.net) }
+    ensures fits { OnOk result (size_refusal (is_too_large_twin watching source.now.net.circuit) ≡ None) }
+    ensures refused { IfErr result (IsRefusedBy (size_refusal (is_too_large_twin watching source.now.net.circuit))) }
+{
+    // What the two netlists keep is known where their nets are counted.
+    let _source_nets = source.net.nets();
+    match synth_registers(alloc, &source.net, control_of(&source.clock), watching) {
         Ok(made) => {
-            match write_registers(alloc, &made.net, &made.plan, made.watch.as_slice(), clock) {
-                Ok(bytes) => Ok(bytes),
-                Err(error) => Err(Refusal::Memory(error)),
-            }
+            let _made_nets = made.net.nets();
+            Ok(made)
         }
         Err(SynthError::TooManyStates) => unreachable!(),
         Err(SynthError::TooLarge) => Err(Refusal::Text(TextRefusal::TooMany(Limit::Covers))),
@@ -92,9 +121,12 @@ fn registers_text(alloc: Global, watching: bool, source: &BlifText) -> Result<By
     }
 }
 
-/// The name of a clock.
-fn name_of(clock: &Clock) -> &[u8]
-    ensures name { result.now ≡ clock.now.control }
+/// The name of the clock, where there is one.
+fn control_of(clock: &Option<Clock>) -> Option<&[u8]>
+    ensures control { option_map (λ name. name.now) result ≡ control_of clock.now }
 {
-    clock.control.as_slice()
+    match clock {
+        Some(clock) => Some(clock.control.as_slice()),
+        None => None,
+    }
 }

@@ -1,7 +1,7 @@
 -- A netlist that is read can be written.
-use Rattle.std.proofs.Common.{◌≡◌, ◌≤◌, ℕ, Bool, true, false, if◌then◌else◌, List, [], ◌∷◌, codes, Option, Some, length-drop, drop, get_or, length, refl, sym, subst, ◌∙◌, arith, None, All, nat_le}
+use Rattle.std.proofs.Common.{◌≡◌, ◌≤◌, ℕ, Bool, true, false, if◌then◌else◌, List, [], ◌∷◌, codes, Option, Some, drop, get_or, length, refl, sym, subst, ◌∙◌, arith, None, All, nat_le}
 use Rattle.std.specs.List.{list_all}
-use Rattle.std.proofs.lemmas.Bool.{leb-le}
+use Rattle.std.proofs.lemmas.Bool.{leb-true}
 use Rattle.std.proofs.lemmas.List.Elements.{All-head, All-tail, All-drop, All-map, All-take, All-weaker}
 use Rattle.std.proofs.lemmas.List.Sums.{AllPass-from_list_all}
 use Rattle.tsc_net.specs.Named.{Named}
@@ -108,28 +108,32 @@ latch-marked line e = by line.is_plan refl e
     by true is latch = cc
     by false is latch = is
 
+-- a line of a latch, whose words are such words
+abbrev IsNamedLatch : TextLine → Type 0
+IsNamedLatch line = HasNames IsTextName line × (is_latch (kind_of line) ≡ true)
+
 -- the clock of such a line is a word
-clock-told : (first : Option TextLine) → ((line : TextLine) → first ≡ Some line → HasNames IsTextName line × (is_latch (kind_of line) ≡ true)) → IsToldClock (clock_at first)
+clock-told : (first : Option TextLine) → ((line : TextLine) → first ≡ Some line → IsNamedLatch line) → IsToldClock (clock_at first)
 clock-told None h = tt
 clock-told (Some line) h = by (has_clock line) refl
   where
     by : (b : Bool) → has_clock line ≡ b → IsToldClock (if b then Some (record { edge = edge_of (edge_word line); control = control_word line }) else None)
     by true has =
         let is = h line refl in
-        let word : IsTextName (control_word line) = is.0 (latch-marked line is.1) 4 [] (omega (arith, le-from (name_count line) has, length-drop 1 line.words)) in
+        let word : IsTextName (control_word line) = is.0 (latch-marked line is.1) 4 [] (omega (arith, leb-true 4 (name_count line) has)) in
         record { word = word.0; allowed = word.1 }
     by false none = tt
 
-    le-from : (n : ℕ) → nat_le 4 n ≡ true → 4 ≤ n
-    le-from n e = leb-le 4 n e
+first-here : (here line : TextLine) (later : Option TextLine) (b : Bool) → is_latch (kind_of here) ≡ b → HasNames IsTextName here
+    → (later ≡ Some line → IsNamedLatch line) → (if b then Some here else later) ≡ Some line → IsNamedLatch line
+first-here here line later true latch names more is = let same : here ≡ line = cc in subst IsNamedLatch same (names, latch)
+first-here here line later false none names more is = more is
 
-first-of : (lines : List TextLine) → All (HasNames IsTextName) lines → (line : TextLine) → first_latch lines ≡ Some line → HasNames IsTextName line × (is_latch (kind_of line) ≡ true)
+first-of : (lines : List TextLine) → All (HasNames IsTextName) lines → (line : TextLine) → first_latch lines ≡ Some line → IsNamedLatch line
 first-of [] names line e = cc
-first-of (here ∷ lines) names line e = by (is_latch (kind_of here)) refl e
-  where
-    by : (b : Bool) → is_latch (kind_of here) ≡ b → (if b then Some here else first_latch lines) ≡ Some line → HasNames IsTextName line × (is_latch (kind_of line) ≡ true)
-    by true latch is = let same : here ≡ line = cc in subst (λ l. HasNames IsTextName l × (is_latch (kind_of l) ≡ true)) same (All-head (HasNames IsTextName) here lines names, latch)
-    by false none is = first-of lines (All-tail (HasNames IsTextName) here lines names) line is
+first-of (here ∷ lines) names line e =
+    first-here here line (first_latch lines) (is_latch (kind_of here)) refl (All-head (HasNames IsTextName) here lines names)
+    (first-of lines (All-tail (HasNames IsTextName) here lines names) line) e
 
 lines-clocked : (kind : Kind) (lines : List TextLine) → All (HasNames IsTextName) lines → IsToldClock (clock_text kind lines)
 lines-clocked Source lines names = tt

@@ -10,6 +10,7 @@ ghost use Rattle.tsc_text.specs.Lines.{lines_of};
 ghost use Rattle.blif_read.specs.Clocks.{clock_text};
 ghost use Rattle.blif_read.specs.Denotes.{DenotesNetlist, DenotesSource, plan_text};
 ghost use Rattle.blif_read.specs.NamedText.{named_text};
+ghost use Rattle.blif_write.specs.Told.{IsTellable, IsToldClock};
 ghost use Rattle.blif_write.specs.Writable.{IsWritable};
 ghost use Rattle.text_sections.specs.Refused.{IsRefusedBy, as_refusal, behind_refusal, byte_refusal, first_refusal, last_refusal, lines_refusal, refusal_from, text_refusal};
 ghost use Rattle.text_sections.specs.Denoted.{first_lines, first_net, first_section, lines_from, net_from};
@@ -57,6 +58,8 @@ pub fn read_registers(alloc: Global, text: &Bytes) -> Result<BlifText, Refusal>
     ensures few { IfOk result (λ source. length source.net.circuit.outputs ≤ 64) }
     ensures once { IfOk result (λ source. AreApart source.net.circuit.outputs) }
     ensures writable { IfOk result (λ source. length source.net.circuit.latches ≡ 0 → IsWritable source.net) }
+    ensures tellable { IfOk result (λ source. IsTellable source.net) }
+    ensures told { IfOk result (λ source. IsToldClock source.clock) }
     ensures allowed { OnOk result (text_refusal Kind.Registers text.now ≡ None) }
     ensures refused { IfErr result (IsRefusedBy (text_refusal Kind.Registers text.now)) }
 {

@@ -1,6 +1,7 @@
-use Rattle.std.proofs.Common.{arith}
+use Rattle.std.proofs.Common.{arith, subst, sym}
 use Rattle.std.proofs.lemmas.Result.{err_from_is_err_and}
 use Rattle.blif_read.specs.declared.kinds.Kind.TheVariants.{Registers}
+use Rattle.blif_write.specs.Told.{IsToldClock}
 use Rattle.text_sections.specs.Denoted.{first_section}
 use Rattle.text_sections.proofs.SectionLemmas.{allowed_lines, refused_first, refused_lines, section_allowed}
 use Rattle.text_sections.proofs.section.read_registers.Goals as goal
@@ -23,3 +24,16 @@ returns-clause-writable c =
     let lines = c.in_ok-lines.lines in λ none.
     c.read_nets_are_writable.ensures.writable c.args.text.now lines (first_section lines) Registers c.in_ok-source.source.net (omega (arith, none)) c.in_ok-lines.ensures.allowed c.in_ok-lines.ensures.lines
     (section_allowed Registers lines 0 c.in_ok-source.ensures.allowed) c.in_ok-source.ensures.exact
+
+pub returns-clause-tellable : goal.returns-clause-tellable
+returns-clause-tellable c =
+    let lines = c.in_ok-lines.lines in
+    (c.read_nets_are_writable.ensures.tellable c.args.text.now lines (first_section lines) Registers c.in_ok-source.source.net c.in_ok-lines.ensures.allowed c.in_ok-lines.ensures.lines
+    (section_allowed Registers lines 0 c.in_ok-source.ensures.allowed) c.in_ok-source.ensures.exact).0
+
+pub returns-clause-told : goal.returns-clause-told
+returns-clause-told c =
+    let lines = c.in_ok-lines.lines in
+    subst IsToldClock (sym c.in_ok-source.ensures.clock)
+    (c.read_nets_are_writable.ensures.tellable c.args.text.now lines (first_section lines) Registers c.in_ok-source.source.net c.in_ok-lines.ensures.allowed c.in_ok-lines.ensures.lines
+    (section_allowed Registers lines 0 c.in_ok-source.ensures.allowed) c.in_ok-source.ensures.exact).1
