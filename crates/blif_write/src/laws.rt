@@ -62,6 +62,18 @@ pub fn written_netlists_are_told()
         → Tells (text_with net plan) net plan }
 {}
 
+/// What the reader refuses of such a text is a limit alone. Where each row has one literal per pin and no net stands twice among the
+/// outputs, the lines are refused as a netlist without a plan for a limit that they pass, or not at all.
+pub fn limits_alone_are_refused()
+    ensures refused { (net : NetlistOf) (plan : List WrittenLine)
+        → IsBuilt net
+        → IsTellable net
+        → All HasWholeRows net.circuit.nodes
+        → AreApart net.circuit.outputs
+        → All IsPlanLine plan
+        → IsLimitAlone (refusal Unplanned (told_before_end net plan)) }
+{}
+
 /// A netlist with registers is read again as itself, with its clock. The text of such a netlist with a clock, whose control is a
 /// word, or without one, and with any plan lines, has only bytes that a text may hold, is one section, denotes that netlist, and
 /// has that clock where it has a register.
@@ -85,16 +97,4 @@ pub fn register_plans_are_told()
         → AreNets net.circuit plan.checks
         → All (AreNets net.circuit) watches
         → All IsPlanLine (register_plan_lines net plan watches) }
-{}
-
-/// What the reader refuses of the text of a netlist that is told, without a clock, is a limit alone. Where each row has one literal per pin and no net stands twice among the
-/// outputs, the lines are refused as a netlist without a plan for a limit that they pass, or not at all.
-pub fn limits_alone_are_refused()
-    ensures refused { (net : NetlistOf) (plan : List WrittenLine)
-        → IsBuilt net
-        → IsTellable net
-        → All HasWholeRows net.circuit.nodes
-        → AreApart net.circuit.outputs
-        → All IsPlanLine plan
-        → IsLimitAlone (refusal Unplanned (told_before_end net plan)) }
 {}

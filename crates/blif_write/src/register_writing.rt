@@ -23,8 +23,8 @@ use tsc_net::{NetId, Netlist, Plan};
 /// The text of a netlist with registers and its plan, in time linear in its length. The plan has no state words: it is one of the
 /// netlist with its registers as further inputs. `watch` has the watched registers and then the check of the watch; where it is
 /// empty nothing is watched, and no line says so. The `#tsc watch` line stands after those of the checks, and each line of a
-/// register is `.latch READS OUT INIT`, or `.latch READS OUT TYPE CONTROL INIT` with a clock. The text is read again as this
-/// netlist with this clock, where its names are words.
+/// register is `.latch READS OUT INIT`, or `.latch READS OUT TYPE CONTROL INIT` with a clock. Where its names are words, the
+/// text denotes this netlist and, where it has a register, this clock; what a reader refuses for its limits is another matter.
 ///
 /// # Errors
 ///
