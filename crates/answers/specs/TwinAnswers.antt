@@ -1,6 +1,5 @@
 -- What a synthesis of two copies answers to a source, with registers or without.
 use Rattle.std.specs.Prelude.{◌≡◌, ◌<◌, ◌≤◌, ℕ, Bool, List, length, Option}
-use Rattle.std.specs.Option.{option_map}
 use Rattle.fault_secure.specs.CodePlan.{CodePlan}
 use Rattle.tsc_net.specs.NetlistOf.{NetlistOf}
 use Rattle.synth_ways.specs.declared.way.Way.TheVariants.{Duplex}
@@ -13,14 +12,10 @@ use Rattle.tsc_synth.specs.CoverBound.{twin_bound}
 use Rattle.text_sections.specs.Denoted.{clock_in, netlist_in}
 use Rattle.answers.specs.NetworkAnswers.{IsSynthesis}
 
--- the name of a clock, where there is one
-abbrev pub control_of : Option Clock → Option (List ℕ)
-control_of clock = option_map (λ (c : Clock). c.control) clock
-
 -- a netlist, a plan of it, and what is watched are the twin of what is kept of a source, within the bound on covers. So the netlist is secure
 -- for this source: against any one failing cell, and against each listed fault at any steps
-pub record IsTwinFor (watching : Bool) (source : NetlistOf) (control : Option (List ℕ)) (net : NetlistOf) (plan : CodePlan) (watch : List ℕ) : Type 0 where
-  pub twin : IsTwinNetlist source control watching net plan watch
+pub record IsTwinFor (watching : Bool) (source : NetlistOf) (clock : Option Clock) (net : NetlistOf) (plan : CodePlan) (watch : List ℕ) : Type 0 where
+  pub twin : IsTwinNetlist source clock watching net plan watch
   pub covers : length net.circuit.nodes ≤ twin_bound watching source.circuit
   pub cells : IsRegisterSecure source.circuit net.circuit (register_plan (length net.circuit.latches) plan watch)
   pub secure : IsRegisterFaultSecure source.circuit net.circuit (register_plan (length net.circuit.latches) plan watch)
@@ -33,7 +28,7 @@ pub record IsRegisterSynthesis (watching : Bool) (text answer : List ℕ) : Type
   pub watch : List ℕ
   pub written : answer ≡ register_text (clock_in text) net plan (lists_of watch)
   pub told : TellsRegisters (clock_in text) answer net (register_plan_lines net plan (lists_of watch))
-  pub secure : IsTwinFor watching (netlist_in text) (control_of (clock_in text)) net plan watch
+  pub secure : IsTwinFor watching (netlist_in text) (clock_in text) net plan watch
 
 -- of a source without registers it is the answer that `duplex` gives to a network; else it is that of one with registers
 pub record IsTwinAnswer (watching : Bool) (text answer : List ℕ) : Type 0 where

@@ -1,6 +1,5 @@
 //! Synthesis of a BLIF text, which two copies take with registers too.
 ghost use Rattle.std.specs.Prelude.{◌≡◌, ◌≤◌, ℕ, List, None, length, IfOk, IfErr, OnOk};
-ghost use Rattle.std.specs.Option.{option_map};
 ghost use Rattle.blif_write.specs.Told.{IsTellable, IsToldClock};
 ghost use Rattle.blif_write.specs.Writable.{IsWritable};
 ghost use Rattle.synth_ways.specs.declared.way.Way.TheVariants.{Duplex};
@@ -8,13 +7,13 @@ ghost use Rattle.tsc_bits.specs.Lists.{AreApart};
 ghost use Rattle.tsc_net.specs.PlanView.{net_numbers};
 ghost use Rattle.tsc_synth.specs.CoverBound.{is_too_large, is_too_large_twin};
 ghost use Rattle.answers.specs.Answers.{IsBlifSynthesis, IsSynthesis};
-ghost use Rattle.answers.specs.TwinAnswers.{control_of, IsRegisterSynthesis, IsTwinAnswer, IsTwinFor};
+ghost use Rattle.answers.specs.TwinAnswers.{IsRegisterSynthesis, IsTwinAnswer, IsTwinFor};
 ghost use Rattle.answers.specs.Refused.{blif_refusal, size_refusal, twin_refusal};
 ghost use Rattle.text_sections.specs.Denoted.{clock_in, netlist_in};
 ghost use Rattle.text_sections.specs.Refused.{IsRefusedBy};
 
 use crate::network_synthesis::{network_synthesis_of, synth_network, written_text};
-use blif_read::{BlifText, Clock};
+use blif_read::BlifText;
 use blif_write::write_registers;
 use refusals::{Limit, Refusal, TextRefusal};
 use std::alloc::Global;
@@ -103,14 +102,14 @@ fn twin_of(alloc: Global, watching: bool, source: &BlifText) -> Result<TwinNetli
     requires few { length source.now.net.circuit.outputs ≤ 64 }
     requires once { AreApart source.now.net.circuit.outputs }
     requires tellable { IsTellable source.now.net }
-    ensures secure { IfOk result (λ t. IsTwinFor watching source.now.net (control_of source.now.clock) t.net t.plan (net_numbers t.watch)) }
+    ensures secure { IfOk result (λ t. IsTwinFor watching source.now.net source.now.clock t.net t.plan (net_numbers t.watch)) }
     ensures tellable { IfOk result (λ t. IsTellable t.net) }
     ensures fits { OnOk result (size_refusal (is_too_large_twin watching source.now.net.circuit) ≡ None) }
     ensures refused { IfErr result (IsRefusedBy (size_refusal (is_too_large_twin watching source.now.net.circuit))) }
 {
     // What the two netlists keep is known where their nets are counted.
     let _source_nets = source.net.nets();
-    match synth_registers(alloc, &source.net, control_of(&source.clock), watching) {
+    match synth_registers(alloc, &source.net, &source.clock, watching) {
         Ok(made) => {
             let _made_nets = made.net.nets();
             Ok(made)
@@ -118,15 +117,5 @@ fn twin_of(alloc: Global, watching: bool, source: &BlifText) -> Result<TwinNetli
         Err(SynthError::TooManyStates) => unreachable!(),
         Err(SynthError::TooLarge) => Err(Refusal::Text(TextRefusal::TooMany(Limit::Covers))),
         Err(SynthError::Memory(error)) => Err(Refusal::Memory(error)),
-    }
-}
-
-/// The name of the clock, where there is one.
-fn control_of(clock: &Option<Clock>) -> Option<&[u8]>
-    ensures control { option_map (λ name. name.now) result ≡ control_of clock.now }
-{
-    match clock {
-        Some(clock) => Some(clock.control.as_slice()),
-        None => None,
     }
 }

@@ -9,15 +9,6 @@ pub mod TwinMade
 pub mod PartGroups
 pub mod TwinSecure
 pub mod WorkedKept
-pub mod TwinFront
 pub mod TwinDecides
 pub mod TwinOrder
 pub mod OneOfEach
-pub mod GatesStand
-pub mod GroupsWithin
-pub mod WatchedGroups
-pub mod WatchedChecks
-pub mod WatchedTwin
-pub mod WatchedOdd
-pub mod WatchedDecides
-pub mod WholeTwins

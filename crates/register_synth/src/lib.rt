@@ -15,6 +15,6 @@ pub use groups::register_groups;
 pub use kept::{KeptPlaces, kept_places};
 pub use laws::{
     groups_are_apart, kept_is_a_part, made_twins_are_secure, one_of_each, twins_are_checked,
-    twins_are_whole, worked_twin,
+    worked_twin,
 };
 pub use search::reaching_marks;

@@ -1,19 +1,19 @@
 //! Synthesis of a source with registers, within the bound on covers.
 ghost use Rattle.std.specs.Prelude.{◌≡◌, ◌-◌, ◌≤◌, ◌^◌, length, min, IfOk, IfErr, OnOk, IsFalse};
-ghost use Rattle.std.specs.Option.{option_map};
 ghost use Rattle.tsc_bits.specs.Lists.{AreApart};
 ghost use Rattle.tsc_net.specs.PlanView.{net_numbers};
 ghost use Rattle.tsc_synth.specs.CoverBound.{is_too_large_twin, twin_bound, watch_bound, RefusesTwin};
 ghost use Rattle.twin_synth.specs.TwinNetlist.{IsTwinNetlist};
 
+use blif_read::Clock;
 use crate::bound::{MOST_COVERS, bound_over};
 use crate::synthesis::{DUPLEX_COPIES, SynthError};
 use std::alloc::Global;
 use tsc_net::Netlist;
 use twin_synth::{TwinNetlist, twin_netlist};
 
-/// The netlist of two copies of a source with registers, of at most 64 different outputs, with its plan; its registers may be watched. `control`
-/// is the clock's name, which no fresh name begins like.
+/// The netlist of two copies of a source with registers, of at most 64 different outputs, with its plan; its registers may be watched. No fresh name
+/// begins like the control of the clock.
 ///
 /// # Errors
 ///
@@ -21,13 +21,13 @@ use twin_synth::{TwinNetlist, twin_netlist};
 pub fn synth_registers(
     alloc: Global,
     source: &Netlist,
-    control: Option<&[u8]>,
+    clock: &Option<Clock>,
     watching: bool,
 ) -> Result<TwinNetlist, SynthError>
     requires few { length source.now.circuit.outputs ≤ 64 }
     requires once { AreApart source.now.circuit.outputs }
     requires latches { length source.now.circuit.latches ≤ 16384 }
-    ensures exact { IfOk result (λ t. IsTwinNetlist source.now (option_map (λ name. name.now) control) watching t.net t.plan (net_numbers t.watch)) }
+    ensures exact { IfOk result (λ t. IsTwinNetlist source.now clock.now watching t.net t.plan (net_numbers t.watch)) }
     ensures covers { IfOk result (λ t. length t.net.circuit.nodes ≤ twin_bound watching source.now.circuit) }
     ensures fits { OnOk result (IsFalse (is_too_large_twin watching source.now.circuit)) }
     ensures refused { IfErr result (RefusesTwin watching source.now.circuit) }
@@ -35,7 +35,7 @@ pub fn synth_registers(
     if twin_bound(source, watching) > MOST_COVERS {
         return Err(SynthError::TooLarge);
     }
-    match twin_netlist(alloc, source, control, watching) {
+    match twin_netlist(alloc, source, clock, watching) {
         Ok(made) => Ok(made),
         Err(error) => Err(SynthError::Memory(error)),
     }

@@ -1,3 +1,1 @@
-pub mod Numbered
-pub mod NumberedView
-pub mod inner
+pub mod TwinNetlist

@@ -1,5 +1,0 @@
-use Rattle.register_synth.proofs.WholeTwins.{twins_are_whole}
-use Rattle.register_synth.proofs.laws.twins_are_whole.Goals as goal
-
-pub returns : goal.returns
-returns c = record { whole = twins_are_whole }

@@ -1,2 +1,0 @@
--- What the steps of the code answer and keep.
-pub mod Built
