@@ -8,7 +8,8 @@ use Rattle.tsc_bits.specs.Counting.{odd, differ}
 use Rattle.tsc_bits.proofs.Bools.{odd-push}
 use Rattle.tsc_bits.proofs.Lists.{map_agrees, front}
 use Rattle.fault_secure.specs.Circuit.{Circuit, LatchOf, NodeOf, node, latch, no_latch, no_node, latch_net, node_net, pin_net, nets, bit}
-use Rattle.fault_secure.specs.Settle.{Acyclic}
+use Rattle.fault_secure.specs.StuckAt.{NoFault}
+use Rattle.fault_secure.specs.Settle.{Acyclic, Settles}
 use Rattle.fault_secure.specs.Closed.{IsClosed}
 use Rattle.fault_secure.specs.CodePlan.{HasGroups, concat_places, members, bits_at}
 use Rattle.fault_secure.specs.FailingCell.{IsCell}
@@ -58,7 +59,8 @@ module _ (T : Circuit) where
       ap (λ b. if b then n else (if nat_lt n (T.inputs + length T.latches) then n + length T.latches else n + length T.latches + length T.nodes)) (le-ltb n T.inputs (omega arith))
       ∙ ap (λ b. if b then n + length T.latches else n + length T.latches + length T.nodes) (le-ltb n (T.inputs + length T.latches) h)
 
-  covers_counted : length (twin_covers T) ≡ length T.nodes + length T.nodes
+  -- both copies have each cover
+  pub covers_counted : length (twin_covers T) ≡ length T.nodes + length T.nodes
   covers_counted =
       omega (
         arith,
@@ -299,11 +301,13 @@ module _ (T N : Circuit) (groups : List (List ℕ)) (rail1 rail2 : ℕ) (closed 
     pub shown_own : take (length T.outputs) N.outputs ≡ map (own_net T) T.outputs
     shown_own = ap (take (length T.outputs)) begins.outputs ∙ front (length T.outputs) (map (own_net T) T.outputs) (rail1 ∷ rail2 ∷ []) (length-map T.outputs (own_net T))
 
-    front_are : front_nets N (twin_plan T groups rail1 rail2) ≡ map (own_net T) T.outputs ++ twin_check_nets T groups
+    -- the outputs' nets and the checks'
+    pub front_are : front_nets N (twin_plan T groups rail1 rail2) ≡ map (own_net T) T.outputs ++ twin_check_nets T groups
     front_are = ap (λ ns. ns ++ twin_check_nets T groups) shown_own
 
     module _ (v : List Bool) where
-      output_bit : (place : ℕ) → place < length T.outputs → bit (front_bits N (twin_plan T groups rail1 rail2) v) place ≡ bit v (own_net T (slice_index T.outputs place))
+      -- the bit of an output is that of its own net
+      pub output_bit : (place : ℕ) → place < length T.outputs → bit (front_bits N (twin_plan T groups rail1 rail2) v) place ≡ bit v (own_net T (slice_index T.outputs place))
       output_bit place h =
           ap (λ ns. bit (map (bit v) ns) place) front_are
           ∙ get_or-map (bit v) (map (own_net T) T.outputs ++ twin_check_nets T groups) place 0 false
@@ -311,7 +315,8 @@ module _ (T N : Circuit) (groups : List (List ℕ)) (rail1 rail2 : ℕ) (closed 
           ∙ ap (bit v) (get_or_append_left (map (own_net T) T.outputs) (twin_check_nets T groups) 0 place (omega (arith, length-map T.outputs (own_net T)))
           ∙ get_or-map (own_net T) T.outputs place 0 0 h)
 
-      check_bit : (i : ℕ) → i < length groups → bit (front_bits N (twin_plan T groups rail1 rail2) v) (length T.outputs + i) ≡ bit v (slice_index (twin_check_nets T groups) i)
+      -- and the bit of a check that of its net
+      pub check_bit : (i : ℕ) → i < length groups → bit (front_bits N (twin_plan T groups rail1 rail2) v) (length T.outputs + i) ≡ bit v (slice_index (twin_check_nets T groups) i)
       check_bit i h =
           let paired = checks_paired (widened T).inputs groups (length T.nodes + length T.nodes) in
           let at : length T.outputs + i ≡ length (map (own_net T) T.outputs) + i = omega (arith, length-map T.outputs (own_net T)) in
@@ -348,7 +353,8 @@ module _ (T N : Circuit) (groups : List (List ℕ)) (rail1 rail2 : ℕ) (closed 
             ∙ odd-push (bits_at w group) (bit w (length T.outputs + i))
             ∙ odd_with (odd (bits_at w group)) (bit w (length T.outputs + i)) check
 
-        is_odd : IsOdd N (twin_plan T groups rail1 rail2) v
+        -- where both copies are alike, every group is odd
+        pub is_odd : IsOdd N (twin_plan T groups rail1 rail2) v
         is_odd = record {
           groups = All-from_get_or (λ group. IsTrue (odd (bits_at (front_bits N (twin_plan T groups rail1 rail2) v) group))) (members (twin_plan T groups rail1 rail2).plan) []
               (λ i h.
@@ -357,9 +363,19 @@ module _ (T N : Circuit) (groups : List (List ℕ)) (rail1 rail2 : ℕ) (closed 
           watched = All-nil (λ ns. IsTrue (odd (bits_at v ns)));
         }
 
-    pub is_twin : Acyclic T → Acyclic N → AreGroupsApart T groups → DecidesGroups N (twin_plan T groups rail1 rail2)
-        → IsTwin T N (twin_plan T groups rail1 rail2) (own_place T) (copied_place T)
-    is_twin source_acyclic acyclic apart checker = record {
+    -- the checks settle where all does
+    pub checks_settle : (x s : ℕ → Bool) (v : List Bool) → Settles N NoFault x s v → StretchSettles N v (length T.nodes + length T.nodes) top
+    checks_settle x s v settles = record {
+      nodes = λ j low high. settles.nodes j (omega (arith, checks_stand.fits, checks_sized (widened T) N (copied_net T) first_net groups (length T.nodes + length T.nodes)));
+    }
+
+    -- a twin, whatever is watched, where that is odd too
+    pub is_twin_watching : (watches : List (List ℕ)) → Acyclic T → Acyclic N → AreGroupsApart T groups
+        → ((x s : ℕ → Bool) (v : List Bool) → Settles N NoFault x s v → ((n : ℕ) → n < nets T → bit v (own_net T n) ≡ bit v (copied_net T n))
+        → IsOdd N (record { plan = (twin_plan T groups rail1 rail2).plan; watches = watches }) v)
+        → DecidesGroups N (record { plan = (twin_plan T groups rail1 rail2).plan; watches = watches })
+        → IsTwin T N (record { plan = (twin_plan T groups rail1 rail2).plan; watches = watches }) (own_place T) (copied_place T)
+    is_twin_watching watches source_acyclic acyclic apart foretold checker = record {
       source_closed = closed;
       source_acyclic = source_acyclic;
       acyclic = acyclic;
@@ -371,7 +387,11 @@ module _ (T N : Circuit) (groups : List (List ℕ)) (rail1 rail2 : ℕ) (closed 
       outputs = shown_own;
       apart = apart;
       checks_apart = checks_apart;
-      foretold = λ x s v settles alike.
-          is_odd v (record { nodes = λ j low high. settles.nodes j (omega (arith, checks_stand.fits, checks_sized (widened T) N (copied_net T) first_net groups (length T.nodes + length T.nodes))) }) alike;
+      foretold = foretold;
       checker = checker;
     }
+
+    pub is_twin : Acyclic T → Acyclic N → AreGroupsApart T groups → DecidesGroups N (twin_plan T groups rail1 rail2)
+        → IsTwin T N (twin_plan T groups rail1 rail2) (own_place T) (copied_place T)
+    is_twin source_acyclic acyclic apart checker =
+        is_twin_watching [] source_acyclic acyclic apart (λ x s v settles alike. is_odd v (checks_settle x s v settles) alike) checker

@@ -198,12 +198,15 @@ module _ (T N : Circuit) (groups : List (List ℕ)) (rail1 rail2 : ℕ) (closed 
       earlier j pin (inl input) = omega (arith, input)
       earlier j pin (inr between) = let a = between.1 in omega (arith, a, same_node j)
 
-  -- with nodes that read nets before their own after the checks, there is no ring
-  pub twin_acyclic : IsAppended N (twin_top T groups) (length N.nodes) → Acyclic N
-  twin_acyclic appended =
-      sound_acyclic N
-      (joined_sound N (twin_top T groups) (length N.nodes)
+  -- with nodes that read nets before their own after the checks, each node has a rank above those of the nets that it reads, which are its own
+  pub twin_sound : IsAppended N (twin_top T groups) (length N.nodes) → SoundTo N (length N.nodes)
+  twin_sound appended =
+      joined_sound N (twin_top T groups) (length N.nodes)
       (joined_sound N (length T.nodes + length T.nodes) (twin_top T groups)
       (joined_sound N (length T.nodes) (length T.nodes + length T.nodes) own_sound copied_segment)
       (appended_segment N (length T.nodes + length T.nodes) (twin_top T groups) checks_appended))
-      (appended_segment N (twin_top T groups) (length N.nodes) appended))
+      (appended_segment N (twin_top T groups) (length N.nodes) appended)
+
+  -- and there is no ring
+  pub twin_acyclic : IsAppended N (twin_top T groups) (length N.nodes) → Acyclic N
+  twin_acyclic appended = sound_acyclic N (twin_sound appended)

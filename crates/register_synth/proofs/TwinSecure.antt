@@ -1,5 +1,5 @@
 -- Twins that are made of a source are twins of what is kept of it, and secure for it.
-use Rattle.std.proofs.Common.{◌≡◌, map, length, sym, subst, arith}
+use Rattle.std.proofs.Common.{◌≡◌, map, length, sym, subst}
 use Rattle.std.proofs.lemmas.List.{length-map}
 use Rattle.register_laws.proofs.TwinsSecure.{twins_are_secure, twins_are_fault_secure}
 use Rattle.register_laws.proofs.PartRuns.{secure_for_the_whole, fault_secure_for_the_whole}
@@ -39,12 +39,12 @@ twins_are_checked S N registers covers groups rail1 rail2 made closed acyclic fe
     let count : length (map (kept_net S registers covers) S.outputs) ≡ length S.outputs = length-map S.outputs (kept_net S registers covers) in
     let apart : IsGrouping (length (map (kept_net S registers covers) S.outputs)) groups = subst (λ n. IsGrouping n groups) (sym count) (grouping S groups are) in
     let no_ring = twin_acyclic (kept_part S registers covers) N groups rail1 rail2 part.closed begins apart part.acyclic.rank part.acyclic.ranks checker.appended in
-    let decides = twin_decides (kept_part S registers covers) N groups rail1 rail2 made part.closed begins apart (omega arith) checker in
+    let decides = twin_decides (kept_part S registers covers) N groups rail1 rail2 made part.closed begins apart checker in
     let secure = made_twins_are_secure S N registers covers groups rail1 rail2 closed acyclic kept are begins no_ring decides in
     record {
       part = part;
       twin = twins_are_made S N registers covers groups rail1 rail2 closed acyclic kept are begins no_ring decides;
-      planned = twin_planned (kept_part S registers covers) N groups rail1 rail2 made part.closed begins apart (omega arith) checker;
+      planned = twin_planned (kept_part S registers covers) N groups rail1 rail2 made part.closed begins apart checker;
       secure = secure.0;
       fault_secure = secure.1;
     }

@@ -6,6 +6,7 @@ ghost use Rattle.register_synth.specs.RegisterGroups.{AreRegisterGroups};
 ghost use Rattle.register_synth.specs.TwinNet.{twin_latches, twin_covers, twin_checks, twin_check_nets};
 ghost use Rattle.register_synth.specs.TwinLaws.{GroupsApartInPart, TwinsAreMade, MadeTwinsAreSecure};
 ghost use Rattle.register_synth.specs.TwinChecker.{TwinsAreChecked};
+ghost use Rattle.register_synth.specs.TwinCircuit.{TwinsAreWhole, FewCovers};
 ghost use Rattle.register_synth.specs.WorkedTwin.{worked_source, worked_registers, worked_covers, worked_groups, worked_latches, worked_nodes};
 
 /// A law: the registers and covers of a source that some output depends on, through registers, are a part of it. The source is closed, and has
@@ -31,6 +32,15 @@ pub fn made_twins_are_secure()
 /// most 64 outputs. Its plan is of it, and it is secure for the source, against any one failing cell and each listed fault.
 pub fn twins_are_checked()
     ensures checked { TwinsAreChecked }
+{}
+
+/// A law: the twin that is made of a source by the numbers of its nets, with its plan, is closed, and a twin of what is kept of the source, and so
+/// secure for it. With all of its registers watched, the rails agree wherever an odd number of them differs from their copies. The source is closed,
+/// has no ring and at most 64 outputs. However many outputs there are, the twin has at most twice as many covers as the source, and seven for each
+/// output, two for each watched register and five more.
+pub fn twins_are_whole()
+    ensures whole { TwinsAreWhole }
+    ensures few { FewCovers }
 {}
 
 /// A law: a circuit has at most one list of kept registers, one of kept covers, and one list of groups.

@@ -14,6 +14,6 @@ pub use machine_section::{first_machine, machine_alone};
 pub use parts::planned_parts;
 pub use pla_section::{first_table, table_alone};
 pub use section::{
-    behind_first, first_netlist, first_source, last_netlist, read_netlist, read_registers, read_source, text_lines,
-    unplanned_behind,
+    behind_first, first_netlist, first_source, last_netlist, read_netlist, read_registers,
+    read_source, text_lines, unplanned_behind,
 };

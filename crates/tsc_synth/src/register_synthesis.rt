@@ -5,9 +5,9 @@ ghost use Rattle.tsc_net.specs.PlanView.{net_numbers};
 ghost use Rattle.tsc_synth.specs.CoverBound.{is_too_large_twin, twin_bound, watch_bound, RefusesTwin};
 ghost use Rattle.twin_synth.specs.TwinNetlist.{IsTwinNetlist};
 
-use blif_read::Clock;
 use crate::bound::{MOST_COVERS, bound_over};
 use crate::synthesis::{DUPLEX_COPIES, SynthError};
+use blif_read::Clock;
 use std::alloc::Global;
 use tsc_net::Netlist;
 use twin_synth::{TwinNetlist, twin_netlist};
