@@ -2,14 +2,14 @@
 
 use crate::runs::{Done, first_not_done};
 use crate::texts::{
-    AND2, AND2_FAULTS, CHAINED, DUPLEX_CHAINED, DUPLEX_SHARING, LATCHED, LATCHED_FAULTS, LOOSE,
-    ONE, SAFE_AND2, SAFE_LOOSE, SAFE_ONE, SAFE_SHARING, SAFE_WIRE, SHARING, TOGGLE, WIRE,
-    WIRE_FAULTS,
+    AND2, AND2_FAULTS, CHAINED, DUPLEX_CHAINED, DUPLEX_SHARING, DUPLEX_TICKED, DUPLEX_UNREAD, HELD,
+    LATCHED, LATCHED_FAULTS, LOOSE, ONE, SAFE_AND2, SAFE_LOOSE, SAFE_ONE, SAFE_SHARING, SAFE_WIRE,
+    SHARING, TICKED, TOGGLE, UNREAD, WATCHED_HELD, WATCHED_TICKED, WIRE, WIRE_FAULTS,
 };
 use std::test::Fail;
 
 /// Netlists and fault lists, as they follow from the stated constructions. Over one copy a netlist of one group is parity's.
-static WRITTEN: [Done; 14] = [
+static WRITTEN: [Done; 21] = [
     (b"synth blif parity", AND2, b"", SAFE_AND2),
     (b"synth blif parity", WIRE, b"", SAFE_WIRE),
     (b"synth blif parity", LOOSE, b"", SAFE_LOOSE),
@@ -21,6 +21,13 @@ static WRITTEN: [Done; 14] = [
     (b"synth blif duplex", WIRE, b"", SAFE_WIRE),
     (b"synth blif duplex", LOOSE, b"", SAFE_LOOSE),
     (b"synth blif duplex", ONE, b"", SAFE_ONE),
+    (b"synth blif watched", SHARING, b"", DUPLEX_SHARING),
+    (b"synth blif watched", AND2, b"", SAFE_AND2),
+    (b"synth blif duplex", TICKED, b"", DUPLEX_TICKED),
+    (b"synth blif watched", TICKED, b"", WATCHED_TICKED),
+    (b"synth blif watched", HELD, b"", WATCHED_HELD),
+    (b"synth blif duplex", UNREAD, b"", DUPLEX_UNREAD),
+    (b"synth blif watched", UNREAD, b"", DUPLEX_UNREAD),
     (b"faults", SAFE_AND2, b"", AND2_FAULTS),
     (b"faults", SAFE_WIRE, b"", WIRE_FAULTS),
     (b"faults", LATCHED, b"", LATCHED_FAULTS),

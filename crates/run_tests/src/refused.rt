@@ -162,7 +162,7 @@ fn machines_are_refused(rt: HostRuntime) -> Result<(), Fail> {
 }
 
 /// Sources of networks.
-static SOURCES: [Refused; 20] = [
+static SOURCES: [Refused; 24] = [
     (
         b"synth blif parity",
         b".inputs\n.outputs a\n",
@@ -254,6 +254,34 @@ static SOURCES: [Refused; 20] = [
         b"",
         3,
         b"tsc: line 2: latch in a source\n",
+    ),
+    (
+        b"synth blif watched",
+        b".inputs c a\n.outputs y\n.latch a y ah c 0\n",
+        b"",
+        3,
+        b"tsc: line 3: latch clock\n",
+    ),
+    (
+        b"synth blif duplex",
+        b".inputs c a\n.outputs y z\n.latch a y re c 0\n.latch a z 0\n",
+        b"",
+        3,
+        b"tsc: line 4: latch clock\n",
+    ),
+    (
+        b"synth blif duplex",
+        b".inputs c a\n.outputs y c\n.latch a y re c 0\n",
+        b"",
+        3,
+        b"tsc: line 3: latch clock\n",
+    ),
+    (
+        b"synth blif watched",
+        b".inputs a\n.outputs y\n.latch a y 3\n",
+        b"",
+        3,
+        b"tsc: line 3: latch init\n",
     ),
     (
         b"synth blif parity",

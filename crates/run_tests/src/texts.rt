@@ -50,6 +50,33 @@ pub const CHAINED: &[u8] =
 pub const DUPLEX_CHAINED: &[u8] =
     b".model h\n.inputs a b\n.outputs p b q t0_9 t0_13\n#tsc 1 parity\n#tsc group p b t0_3\n#tsc group q t0_4\n.names p a q\n11 1\n.names a b p\n1- 1\n-1 1\n.names t0_1 a t0_0\n11 1\n.names a b t0_1\n1- 1\n-1 1\n.names t0_1 b t0_2\n10 1\n01 1\n.names t0_2 t0_3\n0 1\n.names t0_0 t0_4\n0 1\n.names p b t0_5\n10 1\n01 1\n.names t0_5 q t0_6\n11 1\n.names t0_3 t0_4 t0_7\n11 1\n.names t0_6 t0_7 t0_8\n1- 1\n-1 1\n.names t0_8 t0_9\n1 1\n.names t0_5 t0_4 t0_10\n11 1\n.names t0_3 q t0_11\n11 1\n.names t0_10 t0_11 t0_12\n1- 1\n-1 1\n.names t0_12 t0_13\n1 1\n.end\n";
 
+/// Two registers with a clock, of which one reads the other.
+pub const TICKED: &[u8] =
+    b".model ex\n.inputs clk a b\n.outputs y z\n.latch n1 p re clk 0\n.latch p q re clk 1\n.names a q n1\n11 1\n.names p b y\n1- 1\n-1 1\n.names q z\n0 1\n.end\n";
+
+/// Two copies of it.
+pub const DUPLEX_TICKED: &[u8] =
+    b".model ex\n.inputs clk a b\n.outputs y z t0_10 t0_14\n#tsc 1 parity\n#tsc group y t0_5\n#tsc group z t0_6\n.latch n1 p re clk 0\n.latch p q re clk 1\n.latch t0_2 t0_0 re clk 0\n.latch t0_0 t0_1 re clk 1\n.names a q n1\n11 1\n.names p b y\n1- 1\n-1 1\n.names q z\n0 1\n.names a t0_1 t0_2\n11 1\n.names t0_0 b t0_3\n1- 1\n-1 1\n.names t0_1 t0_4\n0 1\n.names t0_3 t0_5\n0 1\n.names t0_4 t0_6\n0 1\n.names y z t0_7\n11 1\n.names t0_5 t0_6 t0_8\n11 1\n.names t0_7 t0_8 t0_9\n1- 1\n-1 1\n.names t0_9 t0_10\n1 1\n.names y t0_6 t0_11\n11 1\n.names t0_5 z t0_12\n11 1\n.names t0_11 t0_12 t0_13\n1- 1\n-1 1\n.names t0_13 t0_14\n1 1\n.end\n";
+
+/// The same with its registers watched.
+pub const WATCHED_TICKED: &[u8] =
+    b".model ex\n.inputs clk a b\n.outputs y z t0_19 t0_23\n#tsc 1 parity\n#tsc group y t0_5\n#tsc group z t0_6\n#tsc watch p q t0_8\n.latch n1 p re clk 0\n.latch p q re clk 1\n.latch t0_2 t0_0 re clk 0\n.latch t0_0 t0_1 re clk 1\n.names a q n1\n11 1\n.names p b y\n1- 1\n-1 1\n.names q z\n0 1\n.names a t0_1 t0_2\n11 1\n.names t0_0 b t0_3\n1- 1\n-1 1\n.names t0_1 t0_4\n0 1\n.names t0_3 t0_5\n0 1\n.names t0_4 t0_6\n0 1\n.names t0_0 t0_1 t0_7\n10 1\n01 1\n.names t0_7 t0_8\n0 1\n.names y z t0_9\n11 1\n.names t0_5 t0_6 t0_10\n11 1\n.names t0_9 t0_10 t0_11\n1- 1\n-1 1\n.names p q t0_12\n10 1\n01 1\n.names t0_11 t0_12 t0_13\n11 1\n.names y t0_6 t0_14\n11 1\n.names t0_5 z t0_15\n11 1\n.names t0_14 t0_15 t0_16\n1- 1\n-1 1\n.names t0_16 t0_8 t0_17\n11 1\n.names t0_13 t0_17 t0_18\n1- 1\n-1 1\n.names t0_18 t0_19\n1 1\n.names t0_11 t0_8 t0_20\n11 1\n.names t0_16 t0_12 t0_21\n11 1\n.names t0_20 t0_21 t0_22\n1- 1\n-1 1\n.names t0_22 t0_23\n1 1\n.end\n";
+
+/// An output that is a register, without a clock, and one that no output depends on; an init that is any.
+pub const HELD: &[u8] =
+    b".model k\n.inputs a\n.outputs p n\n.latch n p 2\n.latch p u 0\n.names a p n\n11 0\n.names u d\n1 1\n.end\n";
+
+/// Two copies of it; of the register that is watched the chain is the register itself.
+pub const WATCHED_HELD: &[u8] =
+    b".model k\n.inputs a\n.outputs p n t0_14 t0_18\n#tsc 1 parity\n#tsc group p t0_2\n#tsc group n t0_3\n#tsc watch p t0_4\n.latch n p 0\n.latch t0_1 t0_0 0\n.names a p n\n11 0\n.names a t0_0 t0_1\n11 0\n.names t0_0 t0_2\n0 1\n.names t0_1 t0_3\n0 1\n.names t0_0 t0_4\n0 1\n.names p n t0_5\n11 1\n.names t0_2 t0_3 t0_6\n11 1\n.names t0_5 t0_6 t0_7\n1- 1\n-1 1\n.names t0_7 p t0_8\n11 1\n.names p t0_3 t0_9\n11 1\n.names t0_2 n t0_10\n11 1\n.names t0_9 t0_10 t0_11\n1- 1\n-1 1\n.names t0_11 t0_4 t0_12\n11 1\n.names t0_8 t0_12 t0_13\n1- 1\n-1 1\n.names t0_13 t0_14\n1 1\n.names t0_7 t0_4 t0_15\n11 1\n.names t0_11 p t0_16\n11 1\n.names t0_15 t0_16 t0_17\n1- 1\n-1 1\n.names t0_17 t0_18\n1 1\n.end\n";
+
+/// A register that no output depends on.
+pub const UNREAD: &[u8] = b".model l\n.inputs a\n.outputs y\n.latch a p 2\n.names a y\n0 1\n.end\n";
+
+/// Two copies of what is left, without a watch.
+pub const DUPLEX_UNREAD: &[u8] =
+    b".model l\n.inputs a\n.outputs y t0_2 t0_3\n#tsc 1 parity\n#tsc group y t0_1\n.names a y\n0 1\n.names a t0_0\n0 1\n.names t0_0 t0_1\n0 1\n.names y t0_2\n1 1\n.names t0_1 t0_3\n1 1\n.end\n";
+
 /// Two latches that hold their values, one of two states.
 pub const LATCHED: &[u8] =
     b".inputs x\n.outputs y r1 r2\n#tsc 2 berger\n#tsc check p\n#tsc state 01\n.latch e s 0\n.latch f u 1\n.names y\n.names p\n1\n.names e\n.names f\n1\n.names y p e f r1\n1-1- 1\n-1-1 1\n.names y p e f r2\n1--1 1\n-11- 1\n.end\n";
