@@ -3,6 +3,7 @@ pub mod SynthesisLemmas
 pub mod RailsApart
 pub mod StatedWritable
 pub mod TextRefused
+pub mod TwinLemmas
 pub mod MachineLemmas
 pub mod LooseLemmas
 pub mod FreshWritable

@@ -1,2 +1,4 @@
+pub mod Refused
 pub mod NetworkAnswers
 pub mod TwinAnswers
+pub mod Answers

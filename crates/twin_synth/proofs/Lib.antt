@@ -1,0 +1,14 @@
+pub mod BuiltParts
+pub mod SoundNumbers
+pub mod PushedSteps
+pub mod TableSteps
+pub mod ChecksMore
+pub mod TwinCopies
+pub mod TwinComposed
+pub mod WatchGates
+pub mod GatesPushed
+pub mod TwinNames
+pub mod TwinRails
+pub mod TwinTellable
+pub mod TwinSizes
+pub mod TwinPlanned

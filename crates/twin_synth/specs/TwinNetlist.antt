@@ -1,31 +1,22 @@
 -- The twin of a source with registers by names: its netlist and its plan, and what is promised of them.
 use Rattle.std.specs.Prelude.{◌≡◌, ℕ, zero, ◌+◌, ◌-◌, ◌*◌, ◌≤◌, Bool, true, false, List, [], ◌∷◌, ◌++◌, map, take, length, Option, None, Some}
-use Rattle.std.specs.List.{range_with_len}
 use Rattle.fault_secure.specs.Circuit.{Circuit, latch_net}
 use Rattle.fault_secure.specs.CodePlan.{CodePlan}
 use Rattle.tsc_net.specs.Names.{text_at}
 use Rattle.tsc_net.specs.NetlistOf.{NetlistOf}
-use Rattle.tsc_net.specs.Parts.{fresh_text, free_number}
 use Rattle.blif_read.specs.declared.clocks.Clock.{Clock}
-use Rattle.blif_write.specs.RegisterText.{lists_of}
 use Rattle.parity_synth.specs.CheckedNet.{cover_names}
+use Rattle.blif_write.specs.RegisterText.{lists_of}
+use Rattle.twin_synth.specs.Pushed.{fresh_from, fresh_number}
 use Rattle.register_laws.specs.RegisterPlan.{RegisterPlan}
 use Rattle.register_synth.specs.Kept.{AreKept, kept_part}
 use Rattle.register_synth.specs.RegisterGroups.{AreRegisterGroups}
 use Rattle.register_synth.specs.TwinCircuit.{twin_circuit, watched_plan, IsWholeTwin}
 
--- the words that no fresh name may begin like, beside the names of the source: the control of its clock, where it has one
-abbrev pub control_words : Option Clock → List (List ℕ)
-control_words None = []
-control_words (Some clock) = clock.control ∷ []
-
--- the number of the fresh names: the least such that no name of the source, nor the control, begins as they do
-abbrev pub fresh_number : NetlistOf → Option Clock → ℕ
-fresh_number S clock = free_number (S.names ++ control_words clock)
-
--- fresh names with a number, so many of them, from this count on
-abbrev pub fresh_from : ℕ → ℕ → ℕ → List (List ℕ)
-fresh_from number first count = map (fresh_text number) (range_with_len first count)
+-- the name of a clock, where there is one
+abbrev pub control_of : Option Clock → Option (List ℕ)
+control_of None = None
+control_of (Some clock) = Some clock.control
 
 -- the names of the registers at some places
 abbrev pub register_names : NetlistOf → List ℕ → List (List ℕ)
@@ -35,8 +26,8 @@ register_names S places = map (λ l. text_at S.names (latch_net S.circuit l)) pl
 -- so many nodes after them have fresh ones
 abbrev pub twin_names : NetlistOf → Option Clock → List ℕ → List ℕ → ℕ → List (List ℕ)
 twin_names S clock registers covers more =
-    (take S.circuit.inputs S.names ++ register_names S registers ++ fresh_from (fresh_number S clock) 0 (length registers))
-    ++ (cover_names S covers ++ fresh_from (fresh_number S clock) (length registers) more)
+    (take S.circuit.inputs S.names ++ register_names S registers ++ fresh_from (fresh_number S (control_of clock)) 0 (length registers))
+    ++ (cover_names S covers ++ fresh_from (fresh_number S (control_of clock)) (length registers) more)
 
 -- the twin of what is kept of a source, over these groups, with so many registers watched: its circuit and its names
 abbrev pub twin_netlist : NetlistOf → Option Clock → List ℕ → List ℕ → List (List ℕ) → ℕ → NetlistOf

@@ -1,0 +1,7 @@
+use Rattle.std.proofs.Common.{◌≡◌, map, take, slice_index}
+use Rattle.tsc_net.specs.PlanView.{net_numbers}
+use Rattle.twin_synth.specs.Numbered.{more_outputs}
+use Rattle.twin_synth.proofs.copies.push_outputs.Given as goal
+
+abbrev pub invariant-loop-net : goal.invariant-loop-net
+invariant-loop-net l = l.numbered ≡ more_outputs l.initial.numbered (map (slice_index l.numbers) (net_numbers (take l.net-index l.net-items)))
