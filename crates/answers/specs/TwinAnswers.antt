@@ -20,8 +20,8 @@ pub record IsTwinFor (watching : Bool) (source : NetlistOf) (clock : Option Cloc
   pub cells : IsRegisterSecure source.circuit net.circuit (register_plan (length net.circuit.latches) plan watch)
   pub secure : IsRegisterFaultSecure source.circuit net.circuit (register_plan (length net.circuit.latches) plan watch)
 
--- the answer is the text of a netlist with a plan, what is watched of it, and the clock that the text denotes; read again it tells these; and they
--- are secure for the source that the text denotes
+-- the answer is the text of a netlist with a plan, what is watched of it, and the clock that the text denotes; its lines, read again, are those of
+-- these, and denote the netlist with its clock; and the netlist with its plan is secure for the source that the text denotes
 pub record IsRegisterSynthesis (watching : Bool) (text answer : List ℕ) : Type 0 where
   pub net : NetlistOf
   pub plan : CodePlan

@@ -12,6 +12,7 @@ help_text =
     ++ (help_line (codes "synth kiss berger|mofn")
     ++ (help_line (codes "synth pla parity|berger|mofn")
     ++ (help_line (codes "synth blif|pla duplex")
+    ++ (help_line (codes "synth blif watched")
     ++ (help_line (codes "audit blif|kiss|pla")
     ++ (help_line (codes "audit wide ROWS")
     ++ (help_line (codes "audit exact blif|kiss|pla")
@@ -23,4 +24,4 @@ help_text =
     ++ (help_line (codes "sim pin NET INDEX V WHEN")
     ++ (help_line (codes "make NUMBER")
     ++ (help_line (codes "join")
-    ++ help_line (codes "help")))))))))))))))
+    ++ help_line (codes "help"))))))))))))))))
