@@ -6,7 +6,8 @@ _tsc_next() {
     case "$*" in
     '') echo 'synth audit faults vectors sim make join help' ;;
     synth) echo 'blif kiss pla' ;;
-    'synth blif' | 'synth pla') echo 'parity berger mofn duplex' ;;
+    'synth blif') echo 'parity berger mofn duplex watched' ;;
+    'synth pla') echo 'parity berger mofn duplex' ;;
     'synth kiss') echo 'berger mofn' ;;
     audit) echo 'blif kiss pla wide exact mapped' ;;
     'audit exact') echo 'blif kiss pla' ;;
