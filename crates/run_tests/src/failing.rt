@@ -2,7 +2,7 @@
 ghost use Rattle.std.specs.Prelude.{None};
 
 use crate::runs::{Faults, NO_FAULTS, after_reading, after_run, is_ended, joined};
-use crate::texts::{AND2, FOLLOWING, FREE_AT_ONE, SAFE_AND2, SAFE_WIRE, TOGGLE, TWO_STATES};
+use crate::texts::{AND2, FOLLOWING, FREE_AT_ONE, HELD, SAFE_AND2, SAFE_WIRE, TOGGLE, TWO_STATES};
 use std::alloc::{AllocError, Global};
 use std::test::Fail;
 use tsc_io::{Bytes, CallList, Failed, MemSource, Source};
@@ -109,8 +109,9 @@ fn the_sink_is_full(rt: HostRuntime) -> Result<(), Fail> {
 }
 
 /// The words of each command, its text, and what is read after it.
-static COMMANDS: [(&[u8], &[u8], &[u8]); 16] = [
+static COMMANDS: [(&[u8], &[u8], &[u8]); 17] = [
     (b"synth blif berger", AND2, b""),
+    (b"synth blif watched", HELD, b""),
     (b"synth kiss mofn", TWO_STATES, b""),
     (b"synth pla berger", FREE_AT_ONE, b""),
     (b"audit blif", AND2, SAFE_AND2),
