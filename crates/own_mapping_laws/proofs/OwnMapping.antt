@@ -28,6 +28,7 @@ use Rattle.refusals.specs.declared.ending.Ending.TheVariants.{Finished, Rejected
 use Rattle.refusals.specs.declared.text_refusal.TextRefusal.TheVariants.{NoNetlist}
 use Rattle.text_sections.specs.Denoted.{first_lines, first_net, first_section, lines_from, net_from, netlist_in, plan_in}
 use Rattle.text_sections.specs.Refused.{behind_refusal, byte_refusal, last_refusal, left_behind, left_over, lines_refusal, refusal_from, section_refusal, text_refusal}
+use Rattle.text_sections.proofs.LimitLemmas.{few_latches}
 use Rattle.text_sections.proofs.SectionLemmas.{allowed_both, none_first, none_later, section_allowed}
 use Rattle.mapping_answers.specs.MappedReply.{IsMappingOf, IsYes}
 use Rattle.mapping_answers.specs.MappedSections.{mapped_in, mapped_net, mapped_refusal}
@@ -107,7 +108,7 @@ module _ (answer : List ℕ) (readable : text_refusal Netlist answer ≡ None) (
 
   read : IsReadAs (netlist_text N P) N P
   read = is-read-as N P built structure.well_made structure.plan_of
-      (read-writable answer lines (first_section lines) Netlist N (omega arith) bytes refl section refl)
+      (read-writable answer lines (first_section lines) Netlist N (few_latches Netlist (first_lines lines) N refl section) bytes refl section refl)
 
   laid : lines ≡ all_lines N P
   laid = ap lines_of written ∙ read.lines
