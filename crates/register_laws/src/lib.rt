@@ -1,6 +1,6 @@
 //! Laws of netlists of sources with registers, above all of twins: two copies of covers and registers, of which one copy's outputs are shown.
 //! Its main definitions are `IsTwin`, `Reaches` (through registers) and `IsRegisterSecure`, secure against the runs of the source circuit itself.
-//! It stands on `fault_secure` (circuits, runs, plans), `structure_laws`, `mapping_laws`, `tsc_cover` and `tsc_bits`. No command stands on it yet.
+//! It stands on `fault_secure` (circuits, runs, plans), `structure_laws`, `mapping_laws`, `tsc_cover` and `tsc_bits`.
 //! Its main promise: a netlist that meets `IsTwin` gives no wrong output before its alarm, whatever any one cell, a cover or a register, gives at any steps (`twins_are_secure`).
 //! Definitions, in reading order: specs/RegisterPlan, RegisterStructure, RegisterSecure, RegisterLaws, Twin, Watch, Part, RegisterMapping, Networks, SmallTwin, WrongTwins.
 #![tactic(auto)]
