@@ -12,7 +12,7 @@ use Rattle.blif_read.specs.declared.cause.Cause.TheVariants.{WordCount}
 use Rattle.tsc_text.specs.declared.which.Which.{Which}
 use Rattle.tsc_text.specs.declared.which.Which.TheVariants.{Nodes as NodeCount, Pins as PinCount}
 use Rattle.blif_read.specs.declared.kinds.Kind.{Kind}
-use Rattle.blif_read.specs.declared.kinds.Kind.TheVariants.{Source, Registers, Netlist, Unplanned}
+use Rattle.blif_read.specs.declared.kinds.Kind.TheVariants.{Source, Registers, Netlist, AnyPlan, Unplanned}
 use Rattle.blif_read.specs.declared.kinds.LineKind.{LineKind}
 use Rattle.blif_read.specs.declared.kinds.LineKind.TheVariants.{PlanLine, Model, Inputs, Outputs, Names, Latch, OtherDirective, Row}
 use Rattle.blif_read.specs.declared.seen.Seen.{Seen}
@@ -110,6 +110,7 @@ pub many_nodes : (kind : Kind) → most_nodes kind ≤ 1048576
 many_nodes Source = omega arith
 many_nodes Registers = omega arith
 many_nodes Netlist = omega arith
+many_nodes AnyPlan = omega arith
 many_nodes Unplanned = omega arith
 
 -- as many inputs, latches and nodes as a section may have are no more nets than a netlist may have
@@ -117,4 +118,5 @@ pub many_nets : (kind : Kind) (inputs latches nodes : ℕ) → inputs ≤ 1024 �
 many_nets Source inputs latches nodes i l n = omega (arith, i, l, n)
 many_nets Registers inputs latches nodes i l n = omega (arith, i, l, n)
 many_nets Netlist inputs latches nodes i l n = omega (arith, i, l, n)
+many_nets AnyPlan inputs latches nodes i l n = omega (arith, i, l, n)
 many_nets Unplanned inputs latches nodes i l n = omega (arith, i, l, n)

@@ -4,7 +4,7 @@ use Rattle.tsc_text.specs.TextLine.{TextLine}
 use Rattle.blif_read.specs.Clocks.{clock_misfit}
 use Rattle.blif_read.specs.FirstFault.{first_fault, line_fault, with_misfit}
 use Rattle.blif_read.specs.declared.kinds.Kind.{Kind}
-use Rattle.blif_read.specs.declared.kinds.Kind.TheVariants.{Source, Registers, Netlist, Unplanned}
+use Rattle.blif_read.specs.declared.kinds.Kind.TheVariants.{Source, Registers, Netlist, AnyPlan, Unplanned}
 use Rattle.blif_read.specs.declared.cause.Cause.TheVariants.{LatchClock}
 use Rattle.blif_read.specs.declared.cause.LineFault.{LineFault}
 
@@ -22,4 +22,5 @@ pub no_first_fault : (kind : Kind) (lines : List TextLine) → line_fault kind l
 no_first_fault Source lines e = e
 no_first_fault Registers lines e = none_before (first_fault Registers lines) (clock_misfit lines) e
 no_first_fault Netlist lines e = e
+no_first_fault AnyPlan lines e = e
 no_first_fault Unplanned lines e = e

@@ -21,7 +21,7 @@ use Rattle.blif_read.specs.PlanFault.{each_once, is_width, is_empty, is_none, ar
 use Rattle.blif_read.specs.PlanLines.{is_bits}
 use Rattle.blif_read.specs.Planned.{IsPlannedAt, ArePlanned, AreWide}
 use Rattle.blif_read.specs.declared.plan_lines.PlanKind.{PlanKind}
-use Rattle.blif_read.specs.declared.plan_lines.PlanKind.TheVariants.{CodeLine, GroupLine, CheckLine, StateLine, OtherLine}
+use Rattle.blif_read.specs.declared.plan_lines.PlanKind.TheVariants.{CodeLine, GroupLine, CheckLine, StateLine, WatchLine, OtherLine}
 use Rattle.blif_read.proofs.RowWalk.{and_left, and_right}
 use Rattle.blif_read.proofs.NameGrowth.{get_or-push}
 use Rattle.tsc_net.specs.PlanView.{net_numbers}
@@ -125,6 +125,7 @@ words_are_bits (line ∷ lines) h = by (kind_in_plan line) h.0 (words_are_bits l
     by CodeLine p e = e
     by GroupLine p e = e
     by CheckLine p e = e
+    by WatchLine p e = e
     by OtherLine p e = e
 
 none_is : (o : Option (List ℕ)) → is_none o ≡ true → o ≡ None
@@ -237,6 +238,7 @@ as_many_checks net (line ∷ lines) = by (kind_in_plan line) (as_many_checks net
     by CodeLine e = e
     by CheckLine e = e
     by StateLine e = e
+    by WatchLine e = e
     by OtherLine e = e
 
 groups_filled : (net : NetlistOf) (lines : List TextLine) → ArePlanned lines → All (λ group. 0 < length group) (map (λ names. map (output_place net) names) (group_outputs lines))
@@ -252,6 +254,7 @@ groups_filled net (line ∷ lines) h = by (kind_in_plan line) h.0 (groups_filled
     by CodeLine p e = e
     by CheckLine p e = e
     by StateLine p e = e
+    by WatchLine p e = e
     by OtherLine p e = e
 
 once_each : (places : List ℕ) (count : ℕ) → each_once places count ≡ true → (place : ℕ) → place < count → count_by (λ other. place == other) places ≡ 1

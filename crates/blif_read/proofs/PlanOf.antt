@@ -1,11 +1,11 @@
 -- A plan whose names are nets is of its netlist.
-use Rattle.std.proofs.Common.{◌≡◌, ℕ, ◌+◌, ◌-◌, ◌<◌, ◌≤◌, Bool, true, false, not, ◌&&◌, ◌||◌, List, [], ◌∷◌, ◌++◌, length, get_or, drop, arith, refl, ap, subst, ◌∙◌, Option, Some, None, if◌then◌else◌, length-drop}
+use Rattle.std.proofs.Common.{◌≡◌, ℕ, ◌+◌, ◌-◌, ◌<◌, ◌≤◌, Bool, true, false, not, ◌&&◌, ◌||◌, List, [], ◌∷◌, ◌++◌, length, get_or, drop, arith, refl, ap, sym, subst, ◌∙◌, Option, Some, None, if◌then◌else◌, length-drop}
 use Rattle.std.specs.List.{list_all, list_any}
 use Rattle.std.specs.Option.{is_some, unwrap_or}
 use Rattle.std.specs.Str.{bytes_eq}
 use Rattle.std.proofs.lemmas.List.{get_or-drop}
 use Rattle.std.proofs.lemmas.List.Quantifiers.{position-Some}
-use Rattle.fault_secure.specs.Circuit.{nets}
+use Rattle.fault_secure.specs.Circuit.{Circuit, nets}
 use Rattle.fault_secure.specs.CodePlan.{IsPlanOf}
 use Rattle.tsc_net.specs.Names.{find_text}
 use Rattle.tsc_net.specs.NetlistOf.{NetlistOf, IsBuilt}
@@ -13,11 +13,11 @@ use Rattle.fault_secure.specs.declared.code.Code.{Code}
 use Rattle.fault_secure.specs.declared.code.Code.TheVariants.{Parity, Berger, MOutOfN}
 use Rattle.tsc_text.specs.TextLine.{TextLine}
 use Rattle.blif_read.specs.LineKind.{names_of, net_of}
-use Rattle.blif_read.specs.PlanText.{plan_with, code_in, source_outputs, checks_for, group_checks, group_check_at, check_names, checks_at, kind_in_plan, names_at, net_named}
+use Rattle.blif_read.specs.PlanText.{plan_with, code_in, source_outputs, checks_for, group_checks, group_check_at, check_names, checks_at, groups_for, kind_in_plan, names_at, net_named, seen_circuit, seen_net}
 use Rattle.blif_read.specs.PlanFault.{first_unknown}
 use Rattle.blif_read.specs.Planned.{IsPlannedAt, ArePlanned}
 use Rattle.blif_read.specs.declared.plan_lines.PlanKind.{PlanKind}
-use Rattle.blif_read.specs.declared.plan_lines.PlanKind.TheVariants.{CodeLine, GroupLine, CheckLine, StateLine, OtherLine}
+use Rattle.blif_read.specs.declared.plan_lines.PlanKind.TheVariants.{CodeLine, GroupLine, CheckLine, StateLine, WatchLine, OtherLine}
 use Rattle.blif_read.proofs.PlanMade.{KeepsAll, all_by, all_map}
 
 -- a net has the name
@@ -80,6 +80,7 @@ module _ (names : List (List ℕ)) where
       by CodeLine h r = r
       by GroupLine h r = r
       by StateLine h r = r
+      by WatchLine h r = r
       by OtherLine h r = r
 
   group_checks_known : (lines : List TextLine) → ArePlanned lines → first_unknown names lines ≡ None → list_all (is_known names) (group_checks lines) ≡ true
@@ -93,6 +94,7 @@ module _ (names : List (List ℕ)) where
       by CodeLine p h r = r
       by CheckLine p h r = r
       by StateLine p h r = r
+      by WatchLine p h r = r
       by OtherLine p h r = r
 
   checks_known : (code : Code) (lines : List TextLine) → ArePlanned lines → first_unknown names lines ≡ None → list_all (is_known names) (checks_for code lines) ≡ true
@@ -108,18 +110,35 @@ known_is_net net s name e = by (find_text net.names name) refl e
     by None f e = cc
     by (Some i) f e = omega (arith, (position-Some (bytes_eq name) net.names i [] f).0, s)
 
-pub plan_is_of : (head : TextLine) (lines : List TextLine) (net : NetlistOf) → ArePlanned lines → KeepsAll (code_in head) lines net → first_unknown net.names lines ≡ None → IsBuilt net
-    → IsPlanOf net.circuit (plan_with head lines net)
-plan_is_of head lines net planned keeps known checked = record {
-  outputs = two keeps.least;
-  rail1 = refl;
-  rail2 = refl;
-  checks = all_map (net_named net) (λ n. n < nets net.circuit) (checks_for (code_in head) lines)
-      (all_by (is_known net.names) (λ name. net_named net name < nets net.circuit) (known_is_net net checked.sized) (checks_for (code_in head) lines)
-      (checks_known net.names (code_in head) lines planned known));
-  rails = (checked.closed.outputs (source_outputs net) 0 (first_in keeps.least), checked.closed.outputs (source_outputs net + 1) 0 (second_in keeps.least));
-  latches = refl;
-}
+-- to a plan the groups are those of the netlist
+pub seen_groups : (lists : Bool) (code : Code) (net : NetlistOf) (lines : List TextLine) → groups_for code (seen_net lists net) lines ≡ groups_for code net lines
+seen_groups lists Parity net lines = refl
+seen_groups lists Berger net lines = refl
+seen_groups lists MOutOfN net lines = refl
+
+-- to a plan all nets are as many as they are
+pub seen_nets : (lists : Bool) (C : Circuit) → nets (seen_circuit lists C) ≡ nets C
+seen_nets true C = refl
+seen_nets false C = omega arith
+
+pub plan_is_of : (lists : Bool) (head : TextLine) (lines : List TextLine) (net : NetlistOf) → ArePlanned lines → KeepsAll (code_in head) lines (seen_net lists net)
+    → first_unknown net.names lines ≡ None → IsBuilt net → IsPlanOf (seen_circuit lists net.circuit) (plan_with head lines (seen_net lists net))
+plan_is_of lists head lines net planned keeps known checked =
+    let seen = seen_net lists net in
+    let same : nets seen.circuit ≡ nets net.circuit = seen_nets lists net.circuit in
+    let sized : length seen.names ≡ nets seen.circuit = checked.sized ∙ sym same in
+    let inside : (place : ℕ) → place < length net.circuit.outputs → get_or net.circuit.outputs place 0 < nets seen.circuit =
+    λ place h. subst (λ n. get_or net.circuit.outputs place 0 < n) (sym same) (checked.closed.outputs place 0 h) in
+    record {
+      outputs = two keeps.least;
+      rail1 = refl;
+      rail2 = refl;
+      checks = all_map (net_named seen) (λ n. n < nets seen.circuit) (checks_for (code_in head) lines)
+          (all_by (is_known net.names) (λ name. net_named seen name < nets seen.circuit) (known_is_net seen sized) (checks_for (code_in head) lines)
+          (checks_known net.names (code_in head) lines planned known));
+      rails = (inside (source_outputs net) (first_in keeps.least), inside (source_outputs net + 1) (second_in keeps.least));
+      latches = refl;
+    }
   where
     two : 3 ≤ length net.circuit.outputs → length net.circuit.outputs ≡ (length net.circuit.outputs - 2) + 2
     two h = omega arith

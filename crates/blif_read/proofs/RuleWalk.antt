@@ -1,5 +1,5 @@
 -- The lines of groups, checks and states, one after the other.
-use Rattle.std.proofs.Common.{◌≡◌, ℕ, suc, ◌+◌, ◌-◌, ◌<◌, ◌≤◌, Bool, true, false, List, [], ◌∷◌, ◌++◌, drop, length, arith, refl, sym, ap, ◌∙◌, count_by, cond, zero, nat_lt, nat_le, ◌^◌, ◌*◌, ◌&&◌, Some, if◌then◌else◌}
+use Rattle.std.proofs.Common.{◌≡◌, ℕ, suc, ◌+◌, ◌-◌, ◌<◌, ◌≤◌, Bool, true, false, List, [], ◌∷◌, ◌++◌, drop, length, get_or, arith, refl, sym, ap, ◌∙◌, count_by, cond, zero, nat_lt, nat_le, ◌^◌, ◌*◌, ◌&&◌, Some, None, if◌then◌else◌}
 use Rattle.std.specs.Option.{is_some}
 use Rattle.std.proofs.Math.Pow.{pow_mono}
 use Rattle.tsc_net.specs.Names.{find_text, has_text, with_text}
@@ -8,10 +8,14 @@ use Rattle.tsc_net.proofs.NameLemmas.{found-has}
 use Rattle.std.proofs.lemmas.Grind.{common_steps}
 use Rattle.std.proofs.lemmas.List.Sums.{sum_by-cons}
 use Rattle.tsc_text.specs.TextLine.{TextLine, no_line, the_line, the_word}
-use Rattle.blif_read.specs.PlanText.{kind_in_plan, group_lines, check_lines, is_group_line, is_check_line, state_at, state_words}
+use Rattle.blif_read.specs.PlanText.{kind_in_plan, group_lines, check_lines, watch_lines, first_watch, is_group_line, is_check_line, is_watch_line, state_at, state_words}
 use Rattle.blif_read.specs.PlanFault.{is_empty, is_width}
+use Rattle.blif_read.specs.RegisterFault.{is_register}
+use Rattle.tsc_net.specs.NetlistOf.{NetlistOf}
+use Rattle.tsc_bits.proofs.Ranges.{range_cons, range_none}
+use Rattle.std.specs.List.{slice_range, list_all}
 use Rattle.blif_read.specs.declared.plan_lines.PlanKind.{PlanKind}
-use Rattle.blif_read.specs.declared.plan_lines.PlanKind.TheVariants.{CodeLine, GroupLine, CheckLine, StateLine, OtherLine}
+use Rattle.blif_read.specs.declared.plan_lines.PlanKind.TheVariants.{CodeLine, GroupLine, CheckLine, StateLine, WatchLine, OtherLine}
 use Rattle.std.proofs.lemmas.List.{drop_all, drop_more}
 
 pub count_yes : {X : Type 0} (p : X → Bool) (x : X) (xs : List X) → p x ≡ true → count_by p (x ∷ xs) ≡ count_by p xs + 1
@@ -49,6 +53,24 @@ module _ (lines : List TextLine) (at : ℕ) (h : at < length lines) where
       ap check_lines (drop_more lines at no_line h)
       ∙ count_no (λ line. is_check_line (kind_in_plan line)) (the_line lines at) (drop (at + 1) lines) e
 
+  pub watch_line_here : is_watch_line (kind_in_plan (the_line lines at)) ≡ true
+      → watch_lines (drop at lines) ≡ watch_lines (drop (at + 1) lines) + 1
+  watch_line_here e =
+      ap watch_lines (drop_more lines at no_line h)
+      ∙ count_yes (λ line. is_watch_line (kind_in_plan line)) (the_line lines at) (drop (at + 1) lines) e
+
+  pub watch_line_not : is_watch_line (kind_in_plan (the_line lines at)) ≡ false
+      → watch_lines (drop at lines) ≡ watch_lines (drop (at + 1) lines)
+  watch_line_not e =
+      ap watch_lines (drop_more lines at no_line h)
+      ∙ count_no (λ line. is_watch_line (kind_in_plan line)) (the_line lines at) (drop (at + 1) lines) e
+
+  pub watch_here : is_watch_line (kind_in_plan (the_line lines at)) ≡ true → first_watch (drop at lines) ≡ Some (the_line lines at)
+  watch_here e = rw (drop_more lines at no_line h, e) refl
+
+  pub watch_later : is_watch_line (kind_in_plan (the_line lines at)) ≡ false → first_watch (drop at lines) ≡ first_watch (drop (at + 1) lines)
+  watch_later e = rw (drop_more lines at no_line h, e) refl
+
   pub state_here : StateLine ≡ kind_in_plan (the_line lines at)
       → state_words (drop at lines) ≡ the_word (the_line lines at) 1 ∷ state_words (drop (at + 1) lines)
   state_here e =
@@ -66,6 +88,7 @@ module _ (lines : List TextLine) (at : ℕ) (h : at < length lines) where
       by CodeLine n = refl
       by GroupLine n = refl
       by CheckLine n = refl
+      by WatchLine n = refl
       by OtherLine n = refl
 
 pub group_line_end : (lines : List TextLine) (at : ℕ) → length lines ≤ at → group_lines (drop at lines) ≡ 0
@@ -73,6 +96,25 @@ group_line_end lines at h = rw (drop_all at lines h) refl
 
 pub check_line_end : (lines : List TextLine) (at : ℕ) → length lines ≤ at → check_lines (drop at lines) ≡ 0
 check_line_end lines at h = rw (drop_all at lines h) refl
+
+pub watch_line_end : (lines : List TextLine) (at : ℕ) → length lines ≤ at → watch_lines (drop at lines) ≡ 0
+watch_line_end lines at h = rw (drop_all at lines h) refl
+
+pub watch_end : (lines : List TextLine) (at : ℕ) → length lines ≤ at → first_watch (drop at lines) ≡ None
+watch_end lines at h = rw (drop_all at lines h) refl
+
+-- the names of a watch line, one after the other
+module _ (net : NetlistOf) (words : List (List ℕ)) (place to : ℕ) where
+  pub register_here : place < to → to ≤ length words → is_register net (get_or words place []) ≡ true
+      → list_all (is_register net) (slice_range words place to) ≡ list_all (is_register net) (slice_range words (place + 1) to)
+  register_here h w e = rw (range_cons words place to [] h w, e) refl
+
+  pub register_not : place < to → to ≤ length words → is_register net (get_or words place []) ≡ false
+      → list_all (is_register net) (slice_range words place to) ≡ false
+  register_not h w e = rw (range_cons words place to [] h w, e) refl
+
+  pub register_end : to ≤ place → list_all (is_register net) (slice_range words place to) ≡ true
+  register_end h = rw (range_none words place to h) refl
 
 pub state_end : (lines : List TextLine) (at : ℕ) → length lines ≤ at → state_words (drop at lines) ≡ []
 state_end lines at h = rw (drop_all at lines h) refl
@@ -93,6 +135,21 @@ new_word seen new words word rest e f n =
     let added : new ≡ seen ++ word ∷ [] = n ∙ ap (λ b. if b then seen else seen ++ word ∷ []) t in
     ap (λ l. repeat_after seen l) e
     ∙ (ap (λ b. if b then Some word else repeat_after (seen ++ word ∷ []) rest) t ∙ ap (λ l. repeat_after l rest) (sym added))
+
+-- the names of a watch line against those before
+module _ (seen words : List (List ℕ)) (place to : ℕ) (h : place < to) (w : to ≤ length words) where
+  pub name_repeated : is_some (find_text seen (get_or words place [])) ≡ true
+      → repeat_after seen (slice_range words place to) ≡ Some (get_or words place [])
+  name_repeated f =
+      repeated seen (slice_range words place to) (get_or words place []) (slice_range words (place + 1) to) (range_cons words place to [] h w) f
+
+  pub name_new : (new : List (List ℕ)) → is_some (find_text seen (get_or words place [])) ≡ false → new ≡ with_text seen (get_or words place [])
+      → repeat_after seen (slice_range words place to) ≡ repeat_after new (slice_range words (place + 1) to)
+  name_new new f n =
+      new_word seen new (slice_range words place to) (get_or words place []) (slice_range words (place + 1) to) (range_cons words place to [] h w) f n
+
+pub names_end : (seen words : List (List ℕ)) (place to : ℕ) → to ≤ place → repeat_after seen (slice_range words place to) ≡ None
+names_end seen words place to h = rw (range_none words place to h) refl
 
 pub width_is : (outputs checks least : ℕ) → 0 < checks → least ≡ 2 ^ (checks - 1)
     → (nat_le least outputs && nat_lt outputs (2 * least)) ≡ is_width outputs checks

@@ -6,7 +6,7 @@ use Rattle.blif_read.specs.Seen.{seen_of, seen_behind}
 use Rattle.blif_read.specs.Faults.{fault_of, fault_behind, limit, limit_in, most_outputs, latch_fault, latch_limit, has_any_init, has_init, has_latch_shape, most_latches, shaped_latch_fault, is_long, IsWithin}
 use Rattle.blif_read.specs.FirstFault.{fault_or, first_fault_behind, first_fault_after}
 use Rattle.blif_read.specs.declared.kinds.Kind.{Kind}
-use Rattle.blif_read.specs.declared.kinds.Kind.TheVariants.{Source, Registers, Netlist, Unplanned}
+use Rattle.blif_read.specs.declared.kinds.Kind.TheVariants.{Source, Registers, Netlist, AnyPlan, Unplanned}
 use Rattle.blif_read.specs.declared.kinds.LineKind.{LineKind}
 use Rattle.blif_read.specs.declared.kinds.LineKind.TheVariants.{Inputs, Outputs, Latch}
 use Rattle.blif_read.specs.declared.cause.Cause.{Cause}
@@ -59,6 +59,7 @@ outputs_fit kind seen k line e f within =
     most Source = omega arith
     most Registers = omega arith
     most Netlist = omega arith
+    most AnyPlan = omega arith
     most Unplanned = omega arith
 
 -- the name that a latch without a fault gives passes no limit
@@ -82,6 +83,7 @@ latch_out_limit kind seen line e = by kind (has_latch_shape line) e
     by Source true e = cc
     by Registers true e = init Registers (has_any_init line) e
     by Netlist true e = init Netlist (has_init line) e
+    by AnyPlan true e = init AnyPlan (has_init line) e
     by Unplanned true e = init Unplanned (has_init line) e
 
 pub latches_fit : (kind : Kind) (seen : Seen) (k : LineKind) (line : TextLine) → Latch ≡ k → fault_of kind seen k line ≡ None → IsWithin kind seen

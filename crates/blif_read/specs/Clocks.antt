@@ -6,7 +6,7 @@ use Rattle.tsc_text.specs.TextLine.{TextLine, the_word}
 use Rattle.blif_read.specs.LineKind.{kind_of, names_of, name_count}
 use Rattle.blif_read.specs.Faults.{has_latch_shape}
 use Rattle.blif_read.specs.declared.kinds.Kind.{Kind}
-use Rattle.blif_read.specs.declared.kinds.Kind.TheVariants.{Source, Registers, Netlist, Unplanned}
+use Rattle.blif_read.specs.declared.kinds.Kind.TheVariants.{Source, Registers, Netlist, AnyPlan, Unplanned}
 use Rattle.blif_read.specs.declared.kinds.LineKind.{LineKind}
 use Rattle.blif_read.specs.declared.kinds.LineKind.TheVariants.{Outputs, Names, Latch}
 use Rattle.blif_read.specs.declared.clocks.Clock.{Clock}
@@ -101,4 +101,5 @@ abbrev pub clock_text : Kind → List TextLine → Option Clock
 clock_text Source lines = None
 clock_text Registers lines = clock_at (first_latch lines)
 clock_text Netlist lines = None
+clock_text AnyPlan lines = None
 clock_text Unplanned lines = None

@@ -6,11 +6,11 @@ use Rattle.tsc_text.specs.TextLine.{TextLine, the_word}
 use Rattle.blif_read.specs.LineKind.{kind_of, names_of, name_count, pins_of, net_of}
 use Rattle.blif_read.specs.Rows.{has_row_shape, is_bit_word, output_of}
 use Rattle.blif_read.specs.Seen.{seen_of}
-use Rattle.blif_read.specs.PlanLines.{plan_kind, has_plan_shape}
+use Rattle.blif_read.specs.PlanLines.{plan_kind, has_plan_shape, has_any_shape}
 use Rattle.blif_read.specs.declared.kinds.LineKind.{LineKind}
 use Rattle.blif_read.specs.declared.kinds.LineKind.TheVariants.{PlanLine, Model, Inputs, Outputs, Names, Latch, OtherDirective, Row}
 use Rattle.blif_read.specs.declared.kinds.Kind.{Kind}
-use Rattle.blif_read.specs.declared.kinds.Kind.TheVariants.{Source, Registers, Netlist, Unplanned}
+use Rattle.blif_read.specs.declared.kinds.Kind.TheVariants.{Source, Registers, Netlist, AnyPlan, Unplanned}
 use Rattle.blif_read.specs.declared.cause.Cause.{Cause}
 use Rattle.blif_read.specs.declared.cause.Cause.TheVariants.{Unsupported, WordCount, RowOutside, RowShape, Mixed, LatchInSource, LatchInit, PlanShape, Limit}
 use Rattle.tsc_text.specs.declared.which.Which.{Which}
@@ -35,13 +35,15 @@ abbrev pub most_latches : Kind → ℕ
 most_latches Source = 64
 most_latches Registers = 16384
 most_latches Netlist = 64
-most_latches Unplanned = 64
+most_latches AnyPlan = 32768
+most_latches Unplanned = 32768
 
 -- the greatest number of outputs
 abbrev pub most_outputs : Kind → ℕ
 most_outputs Source = 64
 most_outputs Registers = 64
 most_outputs Netlist = 66
+most_outputs AnyPlan = 66
 most_outputs Unplanned = 66
 
 -- the greatest number of nodes
@@ -49,6 +51,7 @@ abbrev pub most_nodes : Kind → ℕ
 most_nodes Source = 16384
 most_nodes Registers = 16384
 most_nodes Netlist = 1048576
+most_nodes AnyPlan = 1048576
 most_nodes Unplanned = 1048576
 
 -- the name has more bytes than a name may have
@@ -113,6 +116,7 @@ abbrev pub shaped_latch_fault : Kind → Seen → TextLine → Option Cause
 shaped_latch_fault Source seen line = Some LatchInSource
 shaped_latch_fault Registers seen line = if has_any_init line then limit (latch_limit Registers seen line) else Some LatchInit
 shaped_latch_fault Netlist seen line = if has_init line then limit (latch_limit Netlist seen line) else Some LatchInit
+shaped_latch_fault AnyPlan seen line = if has_init line then limit (latch_limit AnyPlan seen line) else Some LatchInit
 shaped_latch_fault Unplanned seen line = if has_init line then limit (latch_limit Unplanned seen line) else Some LatchInit
 
 -- the fault of a line of `.latch`: that of a line with its shape, and without the shape `WordCount`
@@ -136,6 +140,7 @@ plan_line_fault Source seen line = None
 plan_line_fault Registers seen line = None
 plan_line_fault Unplanned seen line = None
 plan_line_fault Netlist seen line = if has_plan_shape (plan_kind (the_word line 0)) seen.has_plan line then None else Some PlanShape
+plan_line_fault AnyPlan seen line = if has_any_shape (plan_kind (the_word line 0)) seen.has_plan line then None else Some PlanShape
 
 -- the fault of a line of this kind, with the lowest number where it has several
 abbrev pub fault_of : Kind → Seen → LineKind → TextLine → Option Cause

@@ -6,7 +6,7 @@ use Rattle.blif_read.specs.Seen.{seen_behind}
 use Rattle.blif_read.specs.Faults.{fault_behind, fault_of}
 use Rattle.blif_read.specs.Clocks.{clock_misfit}
 use Rattle.blif_read.specs.declared.kinds.Kind.{Kind}
-use Rattle.blif_read.specs.declared.kinds.Kind.TheVariants.{Source, Registers, Netlist, Unplanned}
+use Rattle.blif_read.specs.declared.kinds.Kind.TheVariants.{Source, Registers, Netlist, AnyPlan, Unplanned}
 use Rattle.blif_read.specs.declared.cause.Cause.{Cause}
 use Rattle.blif_read.specs.declared.cause.Cause.TheVariants.{LatchClock}
 use Rattle.blif_read.specs.declared.cause.LineFault.{LineFault}
@@ -43,4 +43,5 @@ abbrev pub line_fault : Kind → List TextLine → Option LineFault
 line_fault Source lines = first_fault Source lines
 line_fault Registers lines = with_misfit (first_fault Registers lines) (clock_misfit lines)
 line_fault Netlist lines = first_fault Netlist lines
+line_fault AnyPlan lines = first_fault AnyPlan lines
 line_fault Unplanned lines = first_fault Unplanned lines

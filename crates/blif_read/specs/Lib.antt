@@ -11,5 +11,6 @@ pub mod Added
 pub mod Refusal
 pub mod PlanText
 pub mod PlanFault
+pub mod RegisterFault
 pub mod Denotes
 pub mod Planned

@@ -3,6 +3,7 @@ use Rattle.std.specs.Prelude.{ℕ, ◌+◌, ◌-◌, Bool, true, false, ◌==◌
 use Rattle.std.specs.Str.{bytes_eq}
 use Rattle.std.specs.List.{flat_map}
 use Rattle.std.specs.Option.{unwrap_or}
+use Rattle.fault_secure.specs.Circuit.{Circuit}
 use Rattle.fault_secure.specs.CodePlan.{CodePlan}
 use Rattle.tsc_net.specs.Names.{find_text}
 use Rattle.tsc_net.specs.NetlistOf.{NetlistOf}
@@ -12,7 +13,7 @@ use Rattle.tsc_text.specs.TextLine.{TextLine, the_word}
 use Rattle.blif_read.specs.LineKind.{names_of, pins_of, net_of}
 use Rattle.blif_read.specs.PlanLines.{plan_kind}
 use Rattle.blif_read.specs.declared.plan_lines.PlanKind.{PlanKind}
-use Rattle.blif_read.specs.declared.plan_lines.PlanKind.TheVariants.{GroupLine, CheckLine, StateLine, OtherLine}
+use Rattle.blif_read.specs.declared.plan_lines.PlanKind.TheVariants.{GroupLine, CheckLine, StateLine, WatchLine, OtherLine}
 
 -- the kind of a line in a plan; one that is no plan line has none of its kinds
 abbrev pub kind_in_plan : TextLine → PlanKind
@@ -39,6 +40,7 @@ code_in line = code_named (the_word line 1)
 abbrev pub names_at : PlanKind → TextLine → List (List ℕ)
 names_at GroupLine line = names_of line
 names_at CheckLine line = names_of line
+names_at WatchLine line = names_of line
 names_at _ line = []
 
 -- the outputs that a group names, and the check net that ends its line
@@ -95,6 +97,20 @@ group_lines lines = count_by (λ line. is_group_line (kind_in_plan line)) lines
 abbrev pub check_lines : List TextLine → ℕ
 check_lines lines = count_by (λ line. is_check_line (kind_in_plan line)) lines
 
+-- the kind is that of a watch line
+abbrev pub is_watch_line : PlanKind → Bool
+is_watch_line WatchLine = true
+is_watch_line _ = false
+
+-- how many watch lines there are
+abbrev pub watch_lines : List TextLine → ℕ
+watch_lines lines = count_by (λ line. is_watch_line (kind_in_plan line)) lines
+
+-- the first watch line
+abbrev pub first_watch : List TextLine → Option TextLine
+first_watch [] = None
+first_watch (line ∷ lines) = if is_watch_line (kind_in_plan line) then Some line else first_watch lines
+
 -- the bits of a state's word, and how many of them are 1
 abbrev pub bits_of_word : List ℕ → List Bool
 bits_of_word word = map (λ character. character == 49) word
@@ -107,6 +123,22 @@ ones_of_word word = count_by (λ character. character == 49) word
 abbrev pub weight_of : List (List ℕ) → ℕ
 weight_of [] = 0
 weight_of (word ∷ words) = ones_of_word word
+
+-- the code is parity
+abbrev pub is_parity : Code → Bool
+is_parity Parity = true
+is_parity _ = false
+
+-- the circuit as a plan sees it: to one that lists no states, registers are further inputs. Nets keep their numbers
+abbrev pub seen_circuit : Bool → Circuit → Circuit
+seen_circuit lists C = record C {
+  inputs = if lists then C.inputs else C.inputs + length C.latches;
+  latches = if lists then C.latches else [];
+}
+
+-- the netlist as a plan sees it
+abbrev pub seen_net : Bool → NetlistOf → NetlistOf
+seen_net lists net = record net { circuit = seen_circuit lists net.circuit }
 
 -- the number of the source's outputs: those of the netlist without the two rails
 abbrev pub source_outputs : NetlistOf → ℕ

@@ -206,6 +206,6 @@ pub fn clock_of(
 {
     match kind {
         Kind::Registers => first_clock(alloc, section),
-        Kind::Source | Kind::Netlist | Kind::Unplanned => Ok(None),
+        Kind::Source | Kind::Netlist | Kind::AnyPlan | Kind::Unplanned => Ok(None),
     }
 }

@@ -8,7 +8,7 @@ ghost use Rattle.blif_read.specs.Faults.{fault_of, has_any_init, has_init, has_l
 use crate::cause::Cause;
 use crate::kinds::{Kind, LineKind, is_word, word_or_empty};
 use crate::limits::{Tally, is_long, limit_in};
-use crate::plan_lines::has_plan_shape;
+use crate::plan_lines::{has_any_shape, has_plan_shape};
 use crate::seen::{OpenCover, Seen, row_output};
 use tsc_cover::is_row_text;
 use tsc_text::{TextLine, Which};
@@ -19,7 +19,7 @@ fn most_outputs(kind: Kind) -> usize
 {
     match kind {
         Kind::Source | Kind::Registers => 64,
-        Kind::Netlist | Kind::Unplanned => 66,
+        Kind::Netlist | Kind::AnyPlan | Kind::Unplanned => 66,
     }
 }
 
@@ -29,7 +29,7 @@ fn most_nodes(kind: Kind) -> usize
 {
     match kind {
         Kind::Source | Kind::Registers => 16384,
-        Kind::Netlist | Kind::Unplanned => 1_048_576,
+        Kind::Netlist | Kind::AnyPlan | Kind::Unplanned => 1_048_576,
     }
 }
 
@@ -39,7 +39,8 @@ fn most_latches(kind: Kind) -> usize
 {
     match kind {
         Kind::Registers => 16384,
-        Kind::Source | Kind::Netlist | Kind::Unplanned => 64,
+        Kind::AnyPlan | Kind::Unplanned => 32768,
+        Kind::Source | Kind::Netlist => 64,
     }
 }
 
@@ -196,7 +197,7 @@ fn latch_fault(kind: Kind, seen: &Seen, line: &TextLine) -> Option<Cause>
     let has_init = match kind {
         Kind::Source => return Some(Cause::LatchInSource),
         Kind::Registers => has_any_init(line),
-        Kind::Netlist | Kind::Unplanned => has_init(line),
+        Kind::Netlist | Kind::AnyPlan | Kind::Unplanned => has_init(line),
     };
     if has_init {
         limit(latch_limit(kind, seen, line))
@@ -274,6 +275,13 @@ fn plan_line_fault(kind: Kind, seen: &Seen, line: &TextLine) -> Option<Cause>
         Kind::Source | Kind::Registers | Kind::Unplanned => None,
         Kind::Netlist => {
             if has_plan_shape(line, seen.has_plan) {
+                None
+            } else {
+                Some(Cause::PlanShape)
+            }
+        }
+        Kind::AnyPlan => {
+            if has_any_shape(line, seen.has_plan) {
                 None
             } else {
                 Some(Cause::PlanShape)

@@ -50,6 +50,6 @@ pub fn line_fault(kind: Kind, section: &SectionLines) -> Option<LineFault>
     let fault = first_fault(kind, section);
     match kind {
         Kind::Registers => with_misfit(fault, clock_misfit(section)),
-        Kind::Source | Kind::Netlist | Kind::Unplanned => fault,
+        Kind::Source | Kind::Netlist | Kind::AnyPlan | Kind::Unplanned => fault,
     }
 }

@@ -13,8 +13,10 @@ pub enum Kind {
     Source,
     /// A network that may have registers.
     Registers,
-    /// A netlist with its plan.
+    /// A netlist with its plan, which lists the states of its registers.
     Netlist,
+    /// A netlist with its plan, which may list no states though there are registers.
+    AnyPlan,
     /// A netlist without a plan: plan lines are passed over, and the limits are those of a netlist.
     Unplanned,
 }

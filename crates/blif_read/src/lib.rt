@@ -23,6 +23,7 @@ mod plan_reading;
 mod plan_rules;
 mod plan_states;
 mod reading;
+mod register_rules;
 mod seen;
 
 pub use clocks::{Clock, Edge};

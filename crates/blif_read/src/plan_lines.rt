@@ -1,7 +1,7 @@
 //! The lines of a plan.
 ghost use Rattle.std.specs.Prelude.{◌≡◌};
 ghost use Rattle.tsc_text.specs.TextLine.{the_word};
-ghost use Rattle.blif_read.specs.PlanLines.{has_plan_shape, is_bits, is_code, is_version, plan_kind};
+ghost use Rattle.blif_read.specs.PlanLines.{has_any_shape, has_plan_shape, is_bits, is_code, is_version, plan_kind};
 
 use crate::kinds::{is_word, word_or_empty};
 use tsc_text::TextLine;
@@ -17,6 +17,8 @@ pub enum PlanKind {
     CheckLine,
     /// `state`
     StateLine,
+    /// `watch`
+    WatchLine,
     /// Any other word.
     OtherLine,
 }
@@ -55,6 +57,8 @@ fn plan_kind(word: &[u8]) -> PlanKind
         PlanKind::CheckLine
     } else if is_word(word, b"state") {
         PlanKind::StateLine
+    } else if is_word(word, b"watch") {
+        PlanKind::WatchLine
     } else {
         PlanKind::OtherLine
     }
@@ -76,6 +80,16 @@ pub fn has_plan_shape(line: &TextLine, has_plan: bool) -> bool
         PlanKind::GroupLine => has_plan && line.words() >= 3,
         PlanKind::CheckLine => has_plan && line.words() >= 2,
         PlanKind::StateLine => has_plan && line.words() == 2 && is_bits(line.word(1)),
-        PlanKind::OtherLine => false,
+        PlanKind::WatchLine | PlanKind::OtherLine => false,
+    }
+}
+
+/// Whether a plan line has its place and its words, where something may be watched.
+pub fn has_any_shape(line: &TextLine, has_plan: bool) -> bool
+    ensures shape { result ≡ has_any_shape (plan_kind (the_word line.now 0)) has_plan line.now }
+{
+    match plan_kind_of(line) {
+        PlanKind::WatchLine => has_plan && line.words() >= 3,
+        _ => has_plan_shape(line, has_plan),
     }
 }

@@ -64,7 +64,9 @@ fn has_unknown(line: &TextLine, net: &IndexedNetlist) -> bool
     ensures unknown { result ≡ list_any (λ name. not (is_some (find_text net.now.names name))) (names_at (kind_in_plan line.now) line.now) }
 {
     match kind_in_plan(line) {
-        PlanKind::GroupLine | PlanKind::CheckLine => has_unknown_from(line, net),
+        PlanKind::GroupLine | PlanKind::CheckLine | PlanKind::WatchLine => {
+            has_unknown_from(line, net)
+        }
         PlanKind::CodeLine | PlanKind::StateLine | PlanKind::OtherLine => false,
     }
 }

@@ -133,7 +133,7 @@ fn are_alike(latches: usize, weight: usize, section: &SectionLines) -> bool
 
 /// Whether there is no state.
 #[tactic(auto, using(crate::proofs::RuleWalk::state_here, crate::proofs::RuleWalk::state_not, crate::proofs::RuleWalk::state_end, crate::proofs::RuleWalk::some_state))]
-fn has_no_state(section: &SectionLines) -> bool
+pub fn has_no_state(section: &SectionLines) -> bool
     ensures none { result ≡ is_empty (state_words section.now) }
 {
     for place in 0..section.len() {
