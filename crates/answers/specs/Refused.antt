@@ -4,7 +4,7 @@ use Rattle.fault_secure.specs.Logic.{StateTable}
 use Rattle.fault_secure.specs.declared.code.Code.{Code}
 use Rattle.synth_ways.specs.declared.way.Way.{Way}
 use Rattle.synth_ways.specs.declared.way.Way.TheVariants.{Parity, Duplex, Berger, MOutOfN}
-use Rattle.blif_read.specs.declared.kinds.Kind.TheVariants.{Source, Registers, Netlist}
+use Rattle.blif_read.specs.declared.kinds.Kind.TheVariants.{AnyPlan, Registers, Source}
 use Rattle.tsc_synth.specs.CoverBound.{is_too_large, is_too_large_twin}
 use Rattle.tsc_synth.specs.MachineLimits.{has_too_many_states, takes_too_many_covers}
 use Rattle.commands.specs.declared.command.Command.{Command}
@@ -72,7 +72,7 @@ refusal_of (Audit format) text = audit_refusal format text
 refusal_of (AuditWide rows) text = wide_refusal text
 refusal_of (AuditExact format) text = audit_refusal format text
 refusal_of AuditMapped text = mapped_refusal text
-refusal_of Faults text = text_refusal Netlist text
+refusal_of Faults text = text_refusal AnyPlan text
 refusal_of Vectors text = vectors_refusal text
 refusal_of (Sim fault) text = sim_refusal fault text
 refusal_of Join text = join_refusal text

@@ -27,7 +27,7 @@ use Rattle.blif_read.proofs.Scanned.{first_fault_is}
 use Rattle.blif_read.proofs.ShortNames.{HasNames, IsShortName, short_model, short_names}
 use Rattle.blif_read.specs.LineKind.{kind_of, kind_of_word, name_count}
 use Rattle.blif_read.specs.Clocks.{clock_at, clock_text, control_word, edge_of, edge_word, first_latch, has_clock, is_latch}
-use Rattle.blif_read.specs.declared.kinds.Kind.TheVariants.{Source, Registers, Netlist, Unplanned}
+use Rattle.blif_read.specs.declared.kinds.Kind.TheVariants.{Source, Registers, Netlist, AnyPlan, Unplanned}
 use Rattle.blif_read.specs.declared.kinds.LineKind.TheVariants.{PlanLine}
 use Rattle.fault_secure.specs.Circuit.{NodeOf}
 use Rattle.blif_write.specs.Told.{IsTellable, IsToldClock, IsToldNode, IsWordName}
@@ -139,6 +139,7 @@ lines-clocked : (kind : Kind) (lines : List TextLine) → All (HasNames IsTextNa
 lines-clocked Source lines names = tt
 lines-clocked Registers lines names = clock-told (first_latch lines) (first-of lines names)
 lines-clocked Netlist lines names = tt
+lines-clocked AnyPlan lines names = tt
 lines-clocked Unplanned lines names = tt
 
 -- in a text of allowed bytes, what a section denotes that isn't refused is told by a text, with its clock

@@ -5,7 +5,7 @@ use Rattle.tsc_text.specs.Bytes.{bad_line}
 use Rattle.tsc_text.specs.Lines.{lines_of}
 use Rattle.tsc_text.specs.TextLine.{TextLine}
 use Rattle.tsc_net.specs.NetlistOf.{NetlistOf}
-use Rattle.blif_read.specs.declared.kinds.Kind.TheVariants.{Netlist, Unplanned}
+use Rattle.blif_read.specs.declared.kinds.Kind.TheVariants.{AnyPlan, Unplanned}
 use Rattle.mapping_audit.specs.MappedAnswer.{IsMappedAnswer, IsSecureWhereYes}
 use Rattle.mapping_audit.specs.declared.answer.MappedAnswer.TheVariants.{Yes}
 use Rattle.refusals.specs.declared.ending.Ending.TheVariants.{Finished}
@@ -37,17 +37,17 @@ allowed_lines text lines are sound allowed =
     subst P are (allowed_both (byte_refusal (bad_line text)) (mapped_lines_refusal lines) (ap byte_refusal sound) allowed)
 
 -- lines whose first netlist is allowed, for what stands behind it
-module _ (lines : List TextLine) (at : ℕ) (is : at ≡ (first_section lines).next) (none : first_refusal Netlist lines ≡ None) where
+module _ (lines : List TextLine) (at : ℕ) (is : at ≡ (first_section lines).next) (none : first_refusal AnyPlan lines ≡ None) where
   pub refused_behind : (given : Refusal) → IsRefusedBy (behind_refusal Unplanned lines at) given → IsRefusedBy (mapped_lines_refusal lines) given
   refused_behind given refused =
-      let P : ℕ → Type 0 = λ n. IsRefusedBy (first_of (first_refusal Netlist lines) (behind_refusal Unplanned lines n)) given in
-      subst P is (refused_later (first_refusal Netlist lines) (behind_refusal Unplanned lines at) given none refused)
+      let P : ℕ → Type 0 = λ n. IsRefusedBy (first_of (first_refusal AnyPlan lines) (behind_refusal Unplanned lines n)) given in
+      subst P is (refused_later (first_refusal AnyPlan lines) (behind_refusal Unplanned lines at) given none refused)
 
   -- where nothing refuses the netlist after it either, `audit mapped` of the lines is not refused
   pub allowed_behind : behind_refusal Unplanned lines at ≡ None → mapped_lines_refusal lines ≡ None
   allowed_behind allowed =
-      let P : ℕ → Type 0 = λ n. first_of (first_refusal Netlist lines) (behind_refusal Unplanned lines n) ≡ None in
-      subst P is (allowed_both (first_refusal Netlist lines) (behind_refusal Unplanned lines at) none allowed)
+      let P : ℕ → Type 0 = λ n. first_of (first_refusal AnyPlan lines) (behind_refusal Unplanned lines n) ≡ None in
+      subst P is (allowed_both (first_refusal AnyPlan lines) (behind_refusal Unplanned lines at) none allowed)
 
 -- ---- what is answered
 

@@ -6,7 +6,7 @@ ghost use Rattle.mapping_answers.specs.MappedSections.{mapped_in, mapped_lines_r
 
 use refusals::Refusal;
 use std::alloc::Global;
-use text_sections::{behind_first, first_netlist, text_lines, unplanned_behind};
+use text_sections::{behind_first, first_any_netlist, text_lines, unplanned_behind};
 use tsc_io::Bytes;
 use tsc_net::Netlist;
 use tsc_text::Lines;
@@ -43,7 +43,7 @@ fn pair_of(alloc: Global, lines: &Lines) -> Result<NetlistPair, Refusal>
     ensures allowed { OnOk result (mapped_lines_refusal lines.now ≡ None) }
     ensures refused { IfErr result (IsRefusedBy (mapped_lines_refusal lines.now)) }
 {
-    let read = match first_netlist(alloc, lines) {
+    let read = match first_any_netlist(alloc, lines) {
         Ok(read) => read,
         Err(refusal) => return Err(refusal),
     };

@@ -1,13 +1,16 @@
 -- A text that is simulated: what is refused of it, and its answer.
-use Rattle.std.proofs.Common.{◌≡◌, ℕ, List, drop, Option, None, Result, Ok, Err, refl, sym, ◌∙◌, ap, subst}
+use Rattle.std.proofs.Common.{◌≡◌, ℕ, Bool, true, false, List, drop, Option, None, Result, Ok, Err, refl, sym, ◌∙◌, ap, subst}
 use Rattle.tsc_text.specs.Bytes.{bad_line}
 use Rattle.tsc_text.specs.Lines.{lines_of}
 use Rattle.tsc_text.specs.TextLine.{TextLine}
 use Rattle.tsc_text.specs.declared.section.Section.{Section}
-use Rattle.fault_secure.specs.CodePlan.{CodePlan}
+use Rattle.fault_secure.specs.Circuit.{Circuit}
+use Rattle.fault_secure.specs.CodePlan.{CodePlan, IsPlanOf}
+use Rattle.fault_sim.specs.PlanNets.{HasPlanNets}
+use Rattle.fault_sim.proofs.PlanNets.{opened_plan_nets, plan_nets}
+use Rattle.blif_read.specs.PlanText.{seen_circuit}
 use Rattle.tsc_net.specs.NetlistOf.{NetlistOf}
-use Rattle.blif_read.specs.Denotes.{DenotesNetlist}
-use Rattle.blif_read.specs.declared.kinds.Kind.TheVariants.{Netlist}
+use Rattle.blif_read.specs.declared.kinds.Kind.TheVariants.{AnyPlan}
 use Rattle.buffered_sink.specs.Output.{Output}
 use Rattle.refusals.specs.declared.refusal.Refusal.{Refusal}
 use Rattle.refusals.specs.declared.text_refusal.TextRefusal.{TextRefusal}
@@ -17,10 +20,14 @@ use Rattle.commands.specs.declared.sim_words.SimFault.{SimFault}
 use Rattle.netlist_answers.specs.Answers.{IsSimulation}
 use Rattle.text_sections.specs.Refused.{IsRefusedBy, byte_refusal, first_of, first_refusal}
 use Rattle.netlist_answers.specs.Refused.{run_refusal, sim_lines_refusal, sim_refusal}
-use Rattle.text_sections.specs.Denoted.{first_lines, first_net, first_section, lines_behind}
+use Rattle.text_sections.specs.Denoted.{first_any_plan, first_net, first_section, lines_behind}
 use Rattle.netlist_answers.specs.Simulated.{IsRunOf}
 use Rattle.text_sections.proofs.SectionLemmas.{allowed_both, refused_first, refused_later}
-use Rattle.text_sections.proofs.DenotedLemmas.{plan_denoted}
+
+-- the nets of a plan, whether it lists states or not
+pub any_plan_nets : (lists : Bool) (N : Circuit) (P : CodePlan) → IsPlanOf (seen_circuit lists N) P → HasPlanNets N P
+any_plan_nets true N P is = plan_nets N P is
+any_plan_nets false N P is = opened_plan_nets N P is
 
 -- a text whose lines are refused, or allowed
 refused-sim : (fault : SimFault) (text : List ℕ) (lines : List TextLine) (given : Refusal)
@@ -36,13 +43,13 @@ allowed-sim fault text lines are sound allowed =
 
 -- lines that begin with a netlist, and its run over the lines behind it
 module _ (fault : SimFault) (lines : List TextLine) (net : NetlistOf) (section : Section) (is : net ≡ first_net lines) (at : section ≡ first_section lines) where
-  simulation : (plan : CodePlan) (bytes : List ℕ) → DenotesNetlist (first_lines lines) net plan
+  simulation : (plan : CodePlan) (bytes : List ℕ) → plan ≡ first_any_plan lines
       → IsRunOf fault net plan (drop section.next lines) bytes → IsSimulation fault lines bytes
   simulation plan bytes denoted run =
       let P : NetlistOf → Type 0 = λ n. IsRunOf fault n plan (drop section.next lines) bytes in
       let Q : Section → Type 0 = λ s. IsRunOf fault (first_net lines) plan (drop s.next lines) bytes in
       let S : CodePlan → Type 0 = λ p. IsRunOf fault (first_net lines) p (lines_behind lines) bytes in
-      subst S (sym (plan_denoted lines 0 net plan is denoted)) (subst Q at (subst P is run))
+      subst S denoted (subst Q at (subst P is run))
 
 -- the answer, seen of the text
 simulation-of : (fault : SimFault) (text : List ℕ) (lines : List TextLine) (bytes : List ℕ)
@@ -64,11 +71,11 @@ module _ (fault : SimFault) (lines : List TextLine) (net : NetlistOf) (section :
   behind : run_refusal fault net (drop section.next lines) ≡ run_refusal fault (first_net lines) (lines_behind lines)
   behind = ap (λ n. run_refusal fault n (drop section.next lines)) is ∙ ap (λ s. run_refusal fault (first_net lines) (drop s.next lines)) at
 
-  pub lines_end : {T : Type 0} (plan : CodePlan) (result : Result T Refusal) (before after : Output) → first_refusal Netlist lines ≡ None
-      → DenotesNetlist (first_lines lines) net plan → RunEnds fault net plan (drop section.next lines) result before after → SimulationEnds fault lines result before after
+  pub lines_end : {T : Type 0} (plan : CodePlan) (result : Result T Refusal) (before after : Output) → first_refusal AnyPlan lines ≡ None
+      → plan ≡ first_any_plan lines → RunEnds fault net plan (drop section.next lines) result before after → SimulationEnds fault lines result before after
   lines_end plan result before after sound denoted ends =
       let r : Option TextRefusal = run_refusal fault net (drop section.next lines) in
-      let first : Option TextRefusal = first_refusal Netlist lines in
+      let first : Option TextRefusal = first_refusal AnyPlan lines in
       let later : Option TextRefusal = run_refusal fault (first_net lines) (lines_behind lines) in
       let refused : (given : Refusal) → IsRefusedBy r given → IsRefusedBy (sim_lines_refusal fault lines) given =
       λ given p. let P : Option TextRefusal → Type 0 = λ o. IsRefusedBy o given in refused_later first later given sound (subst P behind p) in
@@ -92,9 +99,9 @@ module _ (A : List ℕ → Type 0) (first later : Option TextRefusal) (at : Outp
 
 -- its lines, and its bytes
 pub refused_lines_end : (fault : SimFault) (lines : List TextLine) (at : Output) (given : Refusal)
-    → IsRefusedBy (first_refusal Netlist lines) given → SimulationEnds {T = Unit {0}} fault lines (Err given) at at
+    → IsRefusedBy (first_refusal AnyPlan lines) given → SimulationEnds {T = Unit {0}} fault lines (Err given) at at
 refused_lines_end fault lines at given refused =
-    first_ends (IsSimulation fault lines) (first_refusal Netlist lines) (run_refusal fault (first_net lines) (lines_behind lines)) at given refused
+    first_ends (IsSimulation fault lines) (first_refusal AnyPlan lines) (run_refusal fault (first_net lines) (lines_behind lines)) at given refused
 
 pub refused_text_ends : (fault : SimFault) (text : List ℕ) (at : Output) (given : Refusal)
     → IsRefusedBy (byte_refusal (bad_line text)) given → TextEnds {T = Unit {0}} fault text (Err given) at at

@@ -16,7 +16,7 @@ use Rattle.refusals.specs.declared.ending.Ending.{Ending}
 use Rattle.refusals.specs.declared.ending.Ending.TheVariants.{Finished, Rejected}
 use Rattle.commands.specs.declared.sim_words.SimFault.{SimFault}
 use Rattle.commands.specs.declared.source_format.SourceFormat.{SourceFormat}
-use Rattle.text_sections.specs.Denoted.{behind_source, first_net, first_plan, lines_behind, net_from, netlist_in, plan_from, plan_in, second_netlist_in, second_plan_in, source_in, source_of}
+use Rattle.text_sections.specs.Denoted.{behind_source, first_any_plan, first_net, lines_behind, net_from, netlist_in, plan_from, plan_in, second_netlist_in, second_plan_in, source_in, source_of}
 use Rattle.netlist_answers.specs.FaultList.{fault_list}
 use Rattle.netlist_answers.specs.VectorList.{vector_list}
 use Rattle.netlist_answers.specs.VerdictText.{verdict_text}
@@ -34,7 +34,7 @@ pub record IsVectorList (text answer : List ℕ) : Type 0 where
 
 -- the answer is the run of the netlist that the first section of the lines denotes, over the step lines after it
 abbrev pub IsSimulation : SimFault → List TextLine → List ℕ → Type 0
-IsSimulation fault lines answer = IsRunOf fault (first_net lines) (first_plan lines) (lines_behind lines) answer
+IsSimulation fault lines answer = IsRunOf fault (first_net lines) (first_any_plan lines) (lines_behind lines) answer
 
 -- the audit's verdict on a netlist with its plan is yes: they are secure for the source, whichever one cell fails in any way, and
 -- whichever one listed fault is present at any steps; and the answer says so

@@ -8,7 +8,7 @@ use Rattle.audit.specs.Verdict.{audit_points}
 use Rattle.fault_secure.specs.Logic.{Logic}
 use Rattle.fault_secure.specs.Circuit.{Circuit}
 use Rattle.fault_secure.specs.CodePlan.{CodePlan}
-use Rattle.blif_read.specs.declared.kinds.Kind.TheVariants.{Netlist}
+use Rattle.blif_read.specs.declared.kinds.Kind.TheVariants.{AnyPlan, Netlist}
 use Rattle.refusals.specs.declared.limit.Limit.TheVariants.{Points, AuditPoints}
 use Rattle.refusals.specs.declared.text_refusal.TextRefusal.{TextRefusal}
 use Rattle.refusals.specs.declared.text_refusal.TextRefusal.TheVariants.{NotListed, StepShape, TooMany}
@@ -47,9 +47,9 @@ shape_refusal (Some line) = Some (StepShape line)
 abbrev pub run_refusal : SimFault → NetlistOf → List TextLine → Option TextRefusal
 run_refusal fault net steps = first_of (place_refusal (is_place_listed net fault)) (shape_refusal (first_misshapen net.circuit.inputs steps))
 
--- the lines of a text as a netlist with step lines after it: the netlist, then the run
+-- the lines of a text as a netlist, whose plan may list no states, with step lines after it: the netlist, then the run
 abbrev pub sim_lines_refusal : SimFault → List TextLine → Option TextRefusal
-sim_lines_refusal fault lines = first_of (first_refusal Netlist lines) (run_refusal fault (first_net lines) (lines_behind lines))
+sim_lines_refusal fault lines = first_of (first_refusal AnyPlan lines) (run_refusal fault (first_net lines) (lines_behind lines))
 
 -- a text as a netlist with step lines after it: its bytes, then its lines
 abbrev pub sim_refusal : SimFault → List ℕ → Option TextRefusal

@@ -8,7 +8,7 @@ ghost use Rattle.netlist_answers.specs.FaultList.{fault_list};
 use blif_read::Kind;
 use refusals::Refusal;
 use std::alloc::Global;
-use text_sections::read_netlist;
+use text_sections::read_any_netlist;
 use tsc_io::Bytes;
 use tsc_net::Netlist;
 
@@ -21,11 +21,8 @@ pub fn listed_netlist(alloc: Global, text: &Bytes) -> Result<Netlist, Refusal>
     requires short { length text.now ≤ 67108864 }
     ensures net { IfOk result (λ net. net ≡ netlist_in text.now) }
     ensures answers { IfOk result (λ net. IsFaultList text.now (fault_list net)) }
-    ensures allowed { OnOk result (text_refusal Kind.Netlist text.now ≡ None) }
-    ensures refused { IfErr result (IsRefusedBy (text_refusal Kind.Netlist text.now)) }
+    ensures allowed { OnOk result (text_refusal Kind.AnyPlan text.now ≡ None) }
+    ensures refused { IfErr result (IsRefusedBy (text_refusal Kind.AnyPlan text.now)) }
 {
-    match read_netlist(alloc, text) {
-        Ok(read) => Ok(read.net),
-        Err(refusal) => Err(refusal),
-    }
+    read_any_netlist(alloc, text)
 }

@@ -2,9 +2,9 @@
 ghost use Rattle.std.specs.Prelude.{◌≡◌, ◌≤◌, Some, None, true, All, drop, length, IfOk, IfErr, OnOk};
 ghost use Rattle.buffered_sink.specs.Output.{output};
 ghost use Rattle.fault_secure.specs.Circuit.{nets};
-ghost use Rattle.fault_secure.specs.CodePlan.{IsPlanOf};
 ghost use Rattle.tsc_net.specs.Fault.{stuck_at, stuck_at_or_none};
 ghost use Rattle.tsc_net.specs.Limits.{most_nets};
+ghost use Rattle.fault_sim.specs.PlanNets.{HasPlanNets};
 ghost use Rattle.fault_sim.specs.Sim.{is_none_or_listed};
 ghost use Rattle.sim_text.specs.StepLines.{all_steps, first_misshapen};
 ghost use Rattle.text_sections.specs.Refused.{IsRefusedBy};
@@ -17,7 +17,7 @@ use commands::SimFault;
 use refusals::{Refusal, TextRefusal};
 use sim_text::{RunError, StepLines, simulate};
 use std::alloc::Global;
-use text_sections::{first_netlist, text_lines};
+use text_sections::{first_any_netlist, text_lines};
 use tsc_io::{Bytes, Sink};
 use tsc_net::{Fault, Netlist, PlannedNetlist, When, is_listed};
 use tsc_text::{End, Lines};
@@ -59,7 +59,7 @@ fn print_lines<K: Sink>(
 ) -> Result<(), Refusal>
     ensures ends { SimulationEnds fault lines.now result (output (K.written sink.old) (K.faults sink.old) page.old) (output (K.written sink.new) (K.faults sink.new) page.new) }
 {
-    let read = first_netlist(alloc, lines)?;
+    let read = first_any_netlist(alloc, lines)?;
     let from = lines.section(0, End::Blif).next;
     print_run(alloc, sink, page, fault, &read, lines, from)
 }
@@ -75,8 +75,7 @@ fn print_run<K: Sink>(
     from: usize,
 ) -> Result<(), Refusal>
     requires within { from ≤ length lines.now }
-    requires plan { IsPlanOf read.now.net.circuit read.now.plan }
-    requires latches { length read.now.net.circuit.latches ≤ 64 }
+    requires plan { HasPlanNets read.now.net.circuit read.now.plan }
     requires nets { nets read.now.net.circuit ≤ most_nets }
     ensures ends { RunEnds fault read.now.net read.now.plan (drop from lines.now) result (output (K.written sink.old) (K.faults sink.old) page.old) (output (K.written sink.new) (K.faults sink.new) page.new) }
 {

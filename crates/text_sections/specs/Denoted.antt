@@ -14,7 +14,7 @@ use Rattle.blif_read.specs.Clocks.{clock_text}
 use Rattle.blif_read.specs.Denotes.{plan_text}
 use Rattle.blif_read.specs.NamedText.{named_text}
 use Rattle.blif_read.specs.declared.clocks.Clock.{Clock}
-use Rattle.blif_read.specs.declared.kinds.Kind.TheVariants.{Netlist, Registers}
+use Rattle.blif_read.specs.declared.kinds.Kind.TheVariants.{AnyPlan, Netlist, Registers}
 use Rattle.fault_secure.specs.Logic.{Logic, Loose, Network, States, StateTable}
 use Rattle.kiss_read.specs.TableText.{machine_text}
 use Rattle.kiss_read.specs.NamesText.{input_names, output_names}
@@ -66,6 +66,10 @@ plan_from lines from = unwrap_or (plan_text Netlist (lines_from lines from) (net
 -- the plan that the first section states
 abbrev pub first_plan : List TextLine → CodePlan
 first_plan lines = plan_from lines 0
+
+-- the same of a section whose plan may list no states: then it is the plan of the netlist with its registers as further inputs
+abbrev pub first_any_plan : List TextLine → CodePlan
+first_any_plan lines = unwrap_or (plan_text AnyPlan (first_lines lines) (first_net lines)) no_plan
 
 -- the plan that a text states
 abbrev pub plan_in : List ℕ → CodePlan

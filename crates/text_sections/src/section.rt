@@ -8,12 +8,12 @@ ghost use Rattle.tsc_bits.specs.Lists.{AreApart};
 ghost use Rattle.tsc_text.specs.Bytes.{bad_line};
 ghost use Rattle.tsc_text.specs.Lines.{lines_of};
 ghost use Rattle.blif_read.specs.Clocks.{clock_text};
-ghost use Rattle.blif_read.specs.Denotes.{DenotesNetlist, DenotesSource, plan_text};
+ghost use Rattle.blif_read.specs.Denotes.{DenotesNetlist, DenotesSource, plan_circuit, plan_text};
 ghost use Rattle.blif_read.specs.NamedText.{named_text};
 ghost use Rattle.blif_write.specs.Told.{IsTellable, IsToldClock};
 ghost use Rattle.blif_write.specs.Writable.{IsWritable};
 ghost use Rattle.text_sections.specs.Refused.{IsRefusedBy, as_refusal, behind_refusal, byte_refusal, first_refusal, last_refusal, lines_refusal, refusal_from, text_refusal};
-ghost use Rattle.text_sections.specs.Denoted.{first_lines, first_net, first_section, lines_from, net_from};
+ghost use Rattle.text_sections.specs.Denoted.{first_any_plan, first_lines, first_net, first_section, lines_from, net_from};
 
 use blif_read::{BlifError, BlifText, Kind, read_blif};
 use blif_write::read_nets_are_writable;
@@ -101,6 +101,34 @@ pub fn read_netlist(alloc: Global, text: &Bytes) -> Result<PlannedNetlist, Refus
     let lines = text_lines(alloc, text)?;
     let read = last_netlist(alloc, &lines, 0)?;
     Ok(read)
+}
+
+/// The netlist that `text` denotes, all of whose lines belong to it, with a plan that may list no states.
+///
+/// # Errors
+///
+/// The first refusal of the text, or want of memory.
+pub fn read_any_netlist(alloc: Global, text: &Bytes) -> Result<Netlist, Refusal>
+    requires short { length text.now ≤ 67108864 }
+    ensures exact { IfOk result (λ net. net ≡ netlist_of (named_text (first_lines (lines_of text.now)))) }
+    ensures allowed { OnOk result (text_refusal Kind.AnyPlan text.now ≡ None) }
+    ensures refused { IfErr result (IsRefusedBy (text_refusal Kind.AnyPlan text.now)) }
+{
+    let lines = text_lines(alloc, text)?;
+    let net = any_netlist_of(alloc, &lines)?;
+    Ok(net)
+}
+
+/// The netlist that the lines denote, all of which belong to it, with a plan that may list no states.
+fn any_netlist_of(alloc: Global, lines: &Lines) -> Result<Netlist, Refusal>
+    ensures exact { IfOk result (λ net. net ≡ netlist_of (named_text (first_lines lines.now))) }
+    ensures allowed { OnOk result (lines_refusal Kind.AnyPlan lines.now ≡ None) }
+    ensures refused { IfErr result (IsRefusedBy (lines_refusal Kind.AnyPlan lines.now)) }
+{
+    match last_text(alloc, lines, 0, Kind::AnyPlan) {
+        Ok(text) => Ok(text.net),
+        Err(refusal) => Err(refusal),
+    }
 }
 
 /// The lines of a text.
@@ -194,7 +222,7 @@ pub fn last_netlist(alloc: Global, lines: &Lines, from: usize) -> Result<Planned
 pub fn unplanned_behind(alloc: Global, lines: &Lines, from: usize) -> Result<Netlist, Refusal>
     requires within { from ≤ length lines.now }
     ensures exact { IfOk result (λ net. net ≡ net_from lines.now from) }
-    ensures latches { IfOk result (λ net. length net.circuit.latches ≤ 64) }
+    ensures latches { IfOk result (λ net. length net.circuit.latches ≤ 32768) }
     ensures nets { IfOk result (λ net. nets net.circuit ≤ most_nets) }
     ensures allowed { OnOk result (behind_refusal Kind.Unplanned lines.now from ≡ None) }
     ensures refused { IfErr result (IsRefusedBy (behind_refusal Kind.Unplanned lines.now from)) }
@@ -215,7 +243,7 @@ fn last_text(alloc: Global, lines: &Lines, from: usize, kind: Kind) -> Result<Bl
     ensures exact { IfOk result (λ text. text.net ≡ net_from lines.now from) }
     ensures plan { IfOk result (λ text. text.plan ≡ plan_text kind (lines_from lines.now from) text.net) }
     ensures clock { IfOk result (λ text. text.clock ≡ clock_text kind (lines_from lines.now from)) }
-    ensures of_net { IfOk result (λ text. IfSome text.plan (IsPlanOf text.net.circuit)) }
+    ensures of_net { IfOk result (λ text. IfSome text.plan (IsPlanOf (plan_circuit kind (lines_from lines.now from) text.net))) }
     ensures allowed { OnOk result (last_refusal kind lines.now from ≡ None) }
     ensures refused { IfErr result (IsRefusedBy (last_refusal kind lines.now from)) }
 {
@@ -247,6 +275,36 @@ pub fn first_netlist(alloc: Global, lines: &Lines) -> Result<PlannedNetlist, Ref
     ensures refused { IfErr result (IsRefusedBy (first_refusal Kind.Netlist lines.now)) }
 {
     netlist_from(alloc, lines, 0)
+}
+
+/// The netlist that the first section of the lines denotes, with its plan, which may list no states, whatever stands after it.
+///
+/// # Errors
+///
+/// The first refusal of the lines, or want of memory.
+pub fn first_any_netlist(alloc: Global, lines: &Lines) -> Result<PlannedNetlist, Refusal>
+    ensures exact { IfOk result (λ read. read.net ≡ first_net lines.now) }
+    ensures plan { IfOk result (λ read. read.plan ≡ first_any_plan lines.now) }
+    ensures of_net { IfOk result (λ read. IsPlanOf (plan_circuit Kind.AnyPlan (first_lines lines.now) read.net) read.plan) }
+    ensures nets { IfOk result (λ read. nets read.net.circuit ≤ most_nets) }
+    ensures allowed { OnOk result (first_refusal Kind.AnyPlan lines.now ≡ None) }
+    ensures refused { IfErr result (IsRefusedBy (first_refusal Kind.AnyPlan lines.now)) }
+{
+    let BlifText {
+        net,
+        plan,
+        clock: _,
+    } = match text_from(alloc, lines, 0, Kind::AnyPlan) {
+        Ok(text) => text,
+        Err(refusal) => return Err(refusal),
+    };
+    match plan {
+        Some(plan) => Ok(PlannedNetlist { net, plan }),
+        None => Err(Refusal::Text(TextRefusal::Blif {
+            kind: Kind::AnyPlan,
+            error: BlifError::NoPlan,
+        })),
+    }
 }
 
 /// The netlist with its plan that the section of the lines from the place `from` on denotes, whatever stands after it.
@@ -296,7 +354,7 @@ fn text_from(alloc: Global, lines: &Lines, from: usize, kind: Kind) -> Result<Bl
     ensures exact { IfOk result (λ text. text.net ≡ net_from lines.now from) }
     ensures plan { IfOk result (λ text. text.plan ≡ plan_text kind (lines_from lines.now from) text.net) }
     ensures clock { IfOk result (λ text. text.clock ≡ clock_text kind (lines_from lines.now from)) }
-    ensures of_net { IfOk result (λ text. IfSome text.plan (IsPlanOf text.net.circuit)) }
+    ensures of_net { IfOk result (λ text. IfSome text.plan (IsPlanOf (plan_circuit kind (lines_from lines.now from) text.net))) }
     ensures allowed { OnOk result (refusal_from kind lines.now from ≡ None) }
     ensures refused { IfErr result (IsRefusedBy (refusal_from kind lines.now from)) }
 {
