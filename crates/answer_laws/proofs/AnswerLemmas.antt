@@ -6,7 +6,7 @@ use Rattle.std.proofs.lemmas.List.{drop_all}
 use Rattle.tsc_text.specs.Bytes.{bad_line}
 use Rattle.tsc_text.specs.Lines.{lines_of}
 use Rattle.tsc_text.specs.TextLine.{TextLine, the_line}
-use Rattle.blif_read.specs.declared.kinds.Kind.TheVariants.{Netlist}
+use Rattle.blif_read.specs.declared.kinds.Kind.TheVariants.{AnyPlan, Netlist}
 use Rattle.refusals.specs.declared.text_refusal.TextRefusal.{TextRefusal}
 use Rattle.refusals.specs.declared.text_refusal.TextRefusal.TheVariants.{AfterTheEnd}
 use Rattle.commands.specs.declared.sim_words.SimFault.TheVariants.{NoFault}
@@ -15,6 +15,7 @@ use Rattle.text_sections.specs.Denoted.{first_net, first_section, lines_behind, 
 use Rattle.text_sections.specs.Refused.{byte_refusal, first_of, first_refusal, left_over, lines_refusal, text_refusal}
 use Rattle.netlist_answers.specs.Refused.{has_too_many_points, points_refusal, run_refusal, shape_refusal, sim_lines_refusal}
 use Rattle.sim_text.specs.StepLines.{first_misshapen}
+use Rattle.text_sections.proofs.AnyPlans.{any_first, any_text}
 use Rattle.text_sections.proofs.SectionLemmas.{allowed_both, none_first, none_later}
 
 pub some_left : (b : Bool) (refusal : TextRefusal) → b ≡ true → (if b then Some refusal else None) ≡ None → ⊥
@@ -39,10 +40,10 @@ read_by_all answer readable =
     let steps : run_refusal NoFault (first_net lines) (lines_behind lines) ≡ None =
     ap (λ steps. shape_refusal (first_misshapen (first_net lines).circuit.inputs steps)) behind in
     record {
-      faults = readable;
+      faults = any_text answer readable;
       tested = ap (λ first. first_of first (points_refusal (has_too_many_points (netlist_in answer).circuit (plan_in answer)))) readable;
       simulated = allowed_both (byte_refusal (bad_line answer)) (sim_lines_refusal NoFault lines) bytes
-          (allowed_both (first_refusal Netlist lines) (run_refusal NoFault (first_net lines) (lines_behind lines)) section steps);
+          (allowed_both (first_refusal AnyPlan lines) (run_refusal NoFault (first_net lines) (lines_behind lines)) (any_first lines section) steps);
     }
 
 pub answers_are_read : AnswersAreRead

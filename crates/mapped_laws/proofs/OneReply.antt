@@ -9,7 +9,7 @@ use Rattle.tsc_net.specs.NetlistOf.{NetlistOf, IsBuilt}
 use Rattle.blif_read.specs.Denotes.{plan_text, plan_at, refusal, refusal_of_plan}
 use Rattle.blif_read.specs.PlanText.{plan_with}
 use Rattle.blif_read.specs.Refusal.{netlist_refusal}
-use Rattle.blif_read.specs.declared.kinds.Kind.TheVariants.{Netlist, Unplanned}
+use Rattle.blif_read.specs.declared.kinds.Kind.TheVariants.{AnyPlan, Netlist, Unplanned}
 use Rattle.mapping_laws.specs.Mapping.{moved_plan}
 use Rattle.mapping_reading.specs.Pins.{at_of}
 use Rattle.mapping_reading.specs.NamedMapping.{moved_by_name}
@@ -52,17 +52,17 @@ module _ (text : List ℕ) (allowed : mapped_refusal text ≡ None) where
   lines_allowed = none_later (byte_refusal (bad_line text)) (mapped_lines_refusal lines) allowed
 
   -- nothing refuses the first netlist of a text that `audit mapped` doesn't refuse
-  pub first_is_allowed : refusal Netlist (first_lines lines) ≡ None
-  first_is_allowed = first_allowed Netlist lines 0
-      (none_first (first_refusal Netlist lines) (behind_refusal Unplanned lines (first_section lines).next) lines_allowed)
+  pub first_is_allowed : refusal AnyPlan (first_lines lines) ≡ None
+  first_is_allowed = first_allowed AnyPlan lines 0
+      (none_first (first_refusal AnyPlan lines) (behind_refusal Unplanned lines (first_section lines).next) lines_allowed)
 
   second_is_allowed : refusal Unplanned (lines_from lines (first_section lines).next) ≡ None
   second_is_allowed = section_allowed Unplanned lines (first_section lines).next
       (behind_allowed lines (first_section lines).next
-      (none_later (first_refusal Netlist lines) (behind_refusal Unplanned lines (first_section lines).next) lines_allowed))
+      (none_later (first_refusal AnyPlan lines) (behind_refusal Unplanned lines (first_section lines).next) lines_allowed))
 
   pub plain_is_built : IsBuilt (netlist_in text)
-  plain_is_built = section_is_built Netlist (first_lines lines) first_is_allowed
+  plain_is_built = section_is_built AnyPlan (first_lines lines) first_is_allowed
 
   pub mapped_is_built : IsBuilt (mapped_in text)
   mapped_is_built = section_is_built Unplanned (lines_from lines (first_section lines).next) second_is_allowed
@@ -123,12 +123,11 @@ told : (o : Option CodePlan) (P : CodePlan) → o ≡ Some P → o ≡ Some (unw
 told o P e = e ∙ ap (λ Q. Some Q) (sym (ap (λ o. unwrap_or o no_plan) e))
 
 pub mapped_texts_are_secure : MappedTextsAreSecure
-mapped_texts_are_secure M text allowed is words secure =
+mapped_texts_are_secure M text allowed none is words secure =
     let N = netlist_in text in
     let G = mapped_in text in
     let section = first_lines (lines_of text) in
     let second = mapped_section text in
-    let none = first_is_allowed text allowed in
     let put : ArePutInto Unplanned section second = record { allowed = none; readable = second_is_allowed text allowed; words = words; names = is.names } in
     let plan : IsAllowed section N = is_allowed section N (both_allowed (netlist_refusal Netlist section) (refusal_of_plan Netlist section) none).1 in
     let planned : plan_text Netlist section N ≡ Some (plan_in text) =

@@ -15,6 +15,7 @@ use Rattle.blif_read.specs.declared.kinds.LineKind.{LineKind}
 use Rattle.blif_read.specs.declared.kinds.LineKind.TheVariants.{PlanLine, Model, Inputs, Outputs, Names, Latch, OtherDirective, Row}
 use Rattle.blif_read.specs.declared.seen.Seen.{Seen}
 use Rattle.blif_read.proofs.NotRefused.{no_line_fault, no_net_fault}
+use Rattle.text_sections.proofs.AnyPlans.{any_latch}
 use Rattle.mapped_laws.specs.MappedLaws.{PlanLinesMayBePassedOver}
 
 -- line by line
@@ -24,7 +25,7 @@ no_fault_here seen Model line e = e
 no_fault_here seen Inputs line e = e
 no_fault_here seen Outputs line e = e
 no_fault_here seen Names line e = e
-no_fault_here seen Latch line e = e
+no_fault_here seen Latch line e = any_latch seen line e
 no_fault_here seen OtherDirective line e = e
 no_fault_here seen Row line e = e
 

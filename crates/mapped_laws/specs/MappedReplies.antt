@@ -5,6 +5,8 @@ use Rattle.tsc_text.specs.TextLine.{TextLine}
 use Rattle.fault_secure.specs.CodePlan.{CodePlan}
 use Rattle.fault_secure.specs.Logic.{Logic}
 use Rattle.fault_secure.specs.CellSecure.{IsCellSecure}
+use Rattle.blif_read.specs.Denotes.{refusal}
+use Rattle.blif_read.specs.declared.kinds.Kind.TheVariants.{Netlist}
 use Rattle.mapping_reading.specs.ReadMapping.{some_block}
 use Rattle.mapping_reading.specs.ReadMappingLaws.{IsSecureInAll}
 use Rattle.refusals.specs.declared.ending.Ending.{Ending}
@@ -30,10 +32,10 @@ mapped_section text = lines_from (lines_of text) (first_section (lines_of text))
 abbrev pub mapped_plan : List ℕ → CodePlan
 mapped_plan text = plan_from (lines_of text) (first_section (lines_of text)).next
 
--- let the second netlist of a text be a mapping of the first, the plan lines of both have the same words, and the first with its plan be
--- secure against any one failing cell. Then the second with its plan is secure against any gates of one block that fail at once, any one
+-- let the first netlist of a text list its states, if it has any, the second be a mapping of it, the plan lines of both have the same words,
+-- and the first with its plan be secure against any one failing cell. Then the second with its plan is secure against any gates of one block that fail at once, any one
 -- cell and each listed fault
 abbrev pub MappedTextsAreSecure : Type 0
-MappedTextsAreSecure = (M : Logic) (text : List ℕ) → mapped_refusal text ≡ None → (is : IsMappingOf (netlist_in text) (mapped_in text))
+MappedTextsAreSecure = (M : Logic) (text : List ℕ) → mapped_refusal text ≡ None → refusal Netlist (first_lines (lines_of text)) ≡ None → (is : IsMappingOf (netlist_in text) (mapped_in text))
     → plan_words (mapped_section text) ≡ plan_words (first_lines (lines_of text)) → IsCellSecure M (netlist_in text).circuit (plan_in text)
     → IsSecureInAll M (netlist_in text).circuit (mapped_in text).circuit (some_block (netlist_in text).circuit (slice_index is.reads.blocks)) (mapped_plan text)

@@ -15,7 +15,7 @@ use Rattle.tsc_net.specs.Order.{fan_ins}
 use Rattle.tsc_net.proofs.AcyclicLemmas.{whole_is_order}
 use Rattle.blif_read.specs.Denotes.{refusal}
 use Rattle.blif_read.specs.NamedText.{named_text}
-use Rattle.blif_read.specs.declared.kinds.Kind.TheVariants.{Netlist, Unplanned}
+use Rattle.blif_read.specs.declared.kinds.Kind.TheVariants.{AnyPlan, Netlist, Unplanned}
 use Rattle.blif_write.specs.IsReadAs.{IsReadAs, all_lines}
 use Rattle.blif_write.specs.Layout.{inputs_line, latch_line, model_line, netlist_text, node_lines, outputs_line, plan_lines}
 use Rattle.blif_write.specs.NamedPlan.{named_plan}
@@ -28,6 +28,7 @@ use Rattle.refusals.specs.declared.ending.Ending.TheVariants.{Finished, Rejected
 use Rattle.refusals.specs.declared.text_refusal.TextRefusal.TheVariants.{NoNetlist}
 use Rattle.text_sections.specs.Denoted.{first_lines, first_net, first_section, lines_from, net_from, netlist_in, plan_in}
 use Rattle.text_sections.specs.Refused.{behind_refusal, byte_refusal, last_refusal, left_behind, left_over, lines_refusal, refusal_from, section_refusal, text_refusal}
+use Rattle.text_sections.proofs.AnyPlans.{any_first}
 use Rattle.text_sections.proofs.LimitLemmas.{few_latches}
 use Rattle.text_sections.proofs.SectionLemmas.{allowed_both, none_first, none_later, section_allowed}
 use Rattle.mapping_answers.specs.MappedReply.{IsMappingOf, IsYes}
@@ -163,7 +164,7 @@ module _ (answer : List ℕ) (readable : text_refusal Netlist answer ≡ None) (
   allowed =
       allowed_lines (answer ++ answer) joined (sym joined_lines) (allowed_in_a_row answer answer bytes bytes)
       (allowed_behind joined (length lines) (sym next)
-      (ap (λ ls. section_refusal Netlist (refusal Netlist ls)) kept ∙ none_first (refusal_from Netlist lines 0) (left_over lines) all_allowed)
+      (ap (λ ls. section_refusal AnyPlan (refusal AnyPlan ls)) kept ∙ any_first lines (none_first (refusal_from Netlist lines 0) (left_over lines) all_allowed))
       (passed_over joined (length lines) (netlist_allowed more lines lines all_allowed)))
 
   -- both netlists are the answer's

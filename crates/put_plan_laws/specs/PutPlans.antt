@@ -70,12 +70,13 @@ AuditedNetlistsTakePlans = (M : Logic) (lines bare others : List TextLine) (P Q 
     → IsCellSecure M (section_net lines).circuit P
     → IsSecureInAll M (section_net lines).circuit (section_net others).circuit (some_block (section_net lines).circuit (slice_index read.blocks)) Q
 
--- so it is of a text whose second netlist is a mapping of the first, as a yes of `audit mapped` says: a section with the other lines of
--- the second one and the plan lines of the first is refused by nothing as a netlist with its plan. Where the first netlist with its
--- plan is secure against any one failing cell, that section's netlist is so with the plan that it states
+-- so it is of a text whose first netlist lists its states, if it has any, and whose second is a mapping of it, as a yes of `audit mapped`
+-- says: a section with the other lines of the second one and the plan lines of the first is refused by nothing as a netlist with its
+-- plan. Where the first netlist with its plan is secure against any one failing cell, that section's netlist is so with the plan that it
+-- states
 abbrev pub AuditedTextsTakePlans : Type 0
 AuditedTextsTakePlans = (M : Logic) (text : List ℕ) (others : List TextLine) (Q : CodePlan) → mapped_refusal text ≡ None
-    → (is : IsMappingOf (netlist_in text) (mapped_in text))
+    → refusal Netlist (first_lines (lines_of text)) ≡ None → (is : IsMappingOf (netlist_in text) (mapped_in text))
     → other_words others ≡ other_words (mapped_section text) → plan_words others ≡ plan_words (first_lines (lines_of text))
     → (refusal Netlist others ≡ None) × (plan_text Netlist others (section_net others) ≡ Some Q → IsCellSecure M (netlist_in text).circuit (plan_in text)
     → IsSecureInAll M (netlist_in text).circuit (section_net others).circuit (some_block (netlist_in text).circuit (slice_index is.reads.blocks)) Q)
