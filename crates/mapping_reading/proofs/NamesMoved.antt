@@ -3,15 +3,20 @@ use Rattle.std.proofs.Common.{◌≡◌, ℕ, zero, suc, ◌+◌, ◌-◌, ◌<�
 use Rattle.std.proofs.lemmas.List.{length-map, get_or-map, get_or-take, length-take-le, get_or_default, ext_get_or}
 use Rattle.std.proofs.lemmas.Bool.{cases_lt, cases_Bool}
 use Rattle.fault_secure.specs.Circuit.{Circuit, LatchOf, no_latch, latch, node_net, nets}
-use Rattle.mapping_laws.specs.Mapping.{moved_latch}
+use Rattle.fault_secure.specs.Settle.{Acyclic}
+use Rattle.mapping_laws.specs.Mapping.{IsMapped, moved_latch}
+use Rattle.register_laws.specs.RegisterMapping.{moved_registers}
+use Rattle.register_laws.proofs.MappedRegisters.{mapped_registers_are_secure, mapped_registers_are_alarm_secure, mapped_registers_are_block_alarm_secure, register_alarm_secure_for_faults}
+use Rattle.register_laws.proofs.MappedPlans.{mapped_plans_are_of_theirs}
 use Rattle.tsc_net.specs.Named.{NamedLatch}
 use Rattle.tsc_net.specs.NetlistOf.{NetlistOf, IsBuilt, named_latches}
 use Rattle.tsc_net.specs.Names.{has_text, text_at, place_of_text, IsNumbering}
+use Rattle.tsc_net.proofs.AcyclicLemmas.{acyclic_from_order}
 use Rattle.tsc_net.proofs.NameLemmas.{place_within, place_past, text_at_place, has_text_at}
 use Rattle.mapping_reading.specs.ReadMapping.{first_net}
 use Rattle.mapping_reading.specs.Pins.{at_of}
 use Rattle.mapping_reading.specs.MovedNets.{HaveMoved}
-use Rattle.mapping_reading.specs.NamedMapping.{moved_by_name, HasSameNames, NamesMove, named_latch, NamesStaySecure}
+use Rattle.mapping_reading.specs.NamedMapping.{moved_by_name, HasSameNames, NamesMove, named_latch, RegistersStaySecure, NamesStaySecure}
 use Rattle.mapping_reading.proofs.ReadMappings.{read_mapping_is_mapping, read_mapping_is_secure}
 use Rattle.mapping_reading.specs.ReadMapping.{some_block}
 
@@ -187,9 +192,25 @@ module _ (N G : NetlistOf) (first : IsBuilt N) (second : IsBuilt G) (same : HasS
 pub names_move : NamesMove
 names_move N G first second same = have_moved N G first second same
 
--- a closed G with an order that reads as N mapped by names is N mapped, and secure where N is against any one failing cell
-pub names_stay_secure : NamesStaySecure
-names_stay_secure N G block closed whole read = record {
-  mapped = read_mapping_is_mapping N.circuit G.circuit (at_of G.circuit (moved_by_name N G)) block _ closed whole read;
-  secure = λ M P secure. read_mapping_is_secure M N.circuit G.circuit (at_of G.circuit (moved_by_name N G)) block _ P closed whole read secure;
+-- G, which is N mapped cover by cover and has no ring, is as secure as N for sources with registers, with the plan moved
+registers_stay_secure : (N G : Circuit) (at block : ℕ → ℕ) → IsMapped N G at block → Acyclic G → RegistersStaySecure N G at block
+registers_stay_secure N G at block mapped acyclic = record {
+  secure = λ S P secure. mapped_registers_are_secure S N G at block P mapped acyclic secure;
+  alarm_secure = λ S P secure. mapped_registers_are_alarm_secure S N G at block P mapped acyclic secure;
+  blocks = λ S P secure. mapped_registers_are_block_alarm_secure S N G at block P mapped acyclic secure;
+  faults = λ S P secure.
+      register_alarm_secure_for_faults S G (moved_registers at P) acyclic (mapped_registers_are_alarm_secure S N G at block P mapped acyclic secure);
+  plans = λ P planned. mapped_plans_are_of_theirs N G at block P mapped planned;
 }
+
+-- a closed G with an order that reads as N mapped by names is N mapped, and secure where N is against any one failing cell, for sources with
+-- registers too
+pub names_stay_secure : NamesStaySecure
+names_stay_secure N G block closed whole read =
+    let mapped = read_mapping_is_mapping N.circuit G.circuit (at_of G.circuit (moved_by_name N G)) block _ closed whole read in
+    record {
+      mapped = mapped;
+      secure = λ M P secure. read_mapping_is_secure M N.circuit G.circuit (at_of G.circuit (moved_by_name N G)) block _ P closed whole read secure;
+      registers = registers_stay_secure N.circuit G.circuit (at_of G.circuit (moved_by_name N G)) (some_block N.circuit block) mapped
+          (acyclic_from_order G.circuit _ whole);
+    }

@@ -1,11 +1,14 @@
 -- Where nets went, by their names.
 use Rattle.std.specs.Prelude.{◌≡◌, ℕ, ◌<◌, ◌≤◌, List, length, map}
-use Rattle.fault_secure.specs.Circuit.{LatchOf, node_net, nets}
+use Rattle.fault_secure.specs.Circuit.{Circuit, LatchOf, node_net, nets}
 use Rattle.fault_secure.specs.Closed.{IsClosed}
 use Rattle.fault_secure.specs.CodePlan.{CodePlan}
 use Rattle.fault_secure.specs.Logic.{Logic}
 use Rattle.fault_secure.specs.CellSecure.{IsCellSecure}
 use Rattle.mapping_laws.specs.Mapping.{IsMapped, moved_plan}
+use Rattle.register_laws.specs.RegisterPlan.{RegisterPlan, IsRegisterPlanOf}
+use Rattle.register_laws.specs.RegisterSecure.{IsRegisterSecure}
+use Rattle.register_laws.specs.RegisterMapping.{IsRegisterAlarmSecure, IsRegisterAlarmFaultSecure, IsRegisterBlockAlarmSecure, moved_registers}
 use Rattle.tsc_net.specs.Named.{NamedLatch}
 use Rattle.tsc_net.specs.Order.{fan_ins, evaluation_order, IsOrder}
 use Rattle.tsc_net.specs.NetlistOf.{NetlistOf, IsBuilt, named_of}
@@ -49,12 +52,23 @@ pub record IsFirstMissing (N G : NetlistOf) (j : ℕ) : Type 0 where
 abbrev pub FirstMissingIsOne : Type 0
 FirstMissingIsOne = (N G : NetlistOf) (j k : ℕ) → IsFirstMissing N G j → IsFirstMissing N G k → j ≡ k
 
+-- whatever the first is secure for among sources with registers, the second is with the plan moved. Where the first is alarm-secure against
+-- any one cell, the second is so against any one cell, any gates of one block and each listed fault. A plan of the first is, moved, one of
+-- the second
+pub record RegistersStaySecure (N G : Circuit) (at block : ℕ → ℕ) : Type 0 where
+  pub secure : (S : Circuit) (P : RegisterPlan) → IsRegisterSecure S N P → IsRegisterSecure S G (moved_registers at P)
+  pub alarm_secure : (S : Circuit) (P : RegisterPlan) → IsRegisterAlarmSecure S N P → IsRegisterAlarmSecure S G (moved_registers at P)
+  pub blocks : (S : Circuit) (P : RegisterPlan) → IsRegisterAlarmSecure S N P → IsRegisterBlockAlarmSecure S N G block (moved_registers at P)
+  pub faults : (S : Circuit) (P : RegisterPlan) → IsRegisterAlarmSecure S N P → IsRegisterAlarmFaultSecure S G (moved_registers at P)
+  pub plans : (P : RegisterPlan) → IsRegisterPlanOf N P → IsRegisterPlanOf G (moved_registers at P)
+
 -- the second is the first mapped cover by cover, by these blocks; and whatever the first is secure for against any one cell, the second
--- is with the plan moved, against any gates of one block, any one cell and each listed fault
+-- is with the plan moved, against any gates of one block, any one cell and each listed fault. The same is so of sources with registers
 pub record StaysSecure (N G : NetlistOf) (block : ℕ → ℕ) : Type 0 where
   pub mapped : IsMapped N.circuit G.circuit (at_of G.circuit (moved_by_name N G)) block
   pub secure : (M : Logic) (P : CodePlan) → IsCellSecure M N.circuit P
       → IsSecureInAll M N.circuit G.circuit block (moved_plan (at_of G.circuit (moved_by_name N G)) P)
+  pub registers : RegistersStaySecure N.circuit G.circuit (at_of G.circuit (moved_by_name N G)) block
 
 -- so it is, by the blocks that read so, where nets went by their names, and the mapped netlist is closed and has an evaluation order
 abbrev pub NamesStaySecure : Type 0

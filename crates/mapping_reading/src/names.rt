@@ -6,7 +6,7 @@ pub fn names_move()
     ensures moved { NamesMove }
 {}
 
-/// A netlist that reads as a mapping by names stays secure, with the plan moved by names.
+/// A netlist that reads as a mapping by names stays secure, with the plan moved by names, for sources with registers too.
 pub fn mappings_by_name_stay_secure()
     ensures secure { NamesStaySecure }
 {}
