@@ -1,3 +1,4 @@
+pub mod PlanNets
 pub mod WrittenLemmas
 pub mod ReadingLemmas
 pub mod SettleLemmas

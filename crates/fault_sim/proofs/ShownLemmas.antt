@@ -8,12 +8,13 @@ use Rattle.tsc_bits.proofs.Bits.{binary-lt, bits_of-binary}
 use Rattle.fault_secure.specs.Circuit.{Circuit, LatchOf, latch_net, nets, bit}
 use Rattle.fault_secure.specs.StuckAt.{StuckAt, on_pin}
 use Rattle.fault_secure.specs.Run.{init_state, latch_reads, next_state}
-use Rattle.fault_secure.specs.CodePlan.{CodePlan, next_nets, IsPlanOf}
+use Rattle.fault_secure.specs.CodePlan.{CodePlan, next_nets}
 use Rattle.fault_secure.specs.Closed.{IsClosed}
 use Rattle.tsc_net.specs.Order.{has_place}
 use Rattle.tsc_net.specs.PlanView.{net_numbers}
 use Rattle.tsc_net.specs.declared.ids.NetId.{NetId}
 use Rattle.tsc_net.specs.declared.netlist.LatchView.{LatchView}
+use Rattle.fault_sim.specs.PlanNets.{HasPlanNets}
 use Rattle.fault_sim.specs.Sim.{watched_nets, number_at, IsViewOf}
 use Rattle.fault_sim.specs.Shown.{latch_as, taken_bit, AreLatchesOf}
 use Rattle.fault_sim.specs.Batch.{ShowBits}
@@ -199,14 +200,14 @@ next_read N bits views are = reads_read views ∙ ap (map bits) (next_numbers N 
 
 -- ---- what a bench may watch
 
-pub watched_inside : (N : Circuit) (P : CodePlan) → IsClosed N → IsPlanOf N P → All (λ net. net < nets N) (watched_nets N P)
-watched_inside N P closed of_net =
+pub watched_inside : (N : Circuit) (P : CodePlan) → IsClosed N → HasPlanNets N P → All (λ net. net < nets N) (watched_nets N P)
+watched_inside N P closed plan =
     let Inside : ℕ → Type 0 = λ net. net < nets N in
     All-append Inside ((take P.outputs N.outputs ++ P.checks) ++ next_nets N) (P.rail1 ∷ P.rail2 ∷ [])
     (All-append Inside (take P.outputs N.outputs ++ P.checks) (next_nets N)
-    (All-append Inside (take P.outputs N.outputs) P.checks (All-take Inside P.outputs N.outputs closed.outputs) of_net.checks)
+    (All-append Inside (take P.outputs N.outputs) P.checks (All-take Inside P.outputs N.outputs closed.outputs) plan.checks)
     (All-map Inside (λ (latch : LatchOf). latch.reads) N.latches closed.latches))
-    (All-cons Inside P.rail1 (P.rail2 ∷ []) of_net.rails.0 (All-cons Inside P.rail2 [] of_net.rails.1 (All-nil Inside)))
+    (All-cons Inside P.rail1 (P.rail2 ∷ []) plan.rails.0 (All-cons Inside P.rail2 [] plan.rails.1 (All-nil Inside)))
 
 pub latches_are_watched : (N : Circuit) (P : CodePlan) (watched : List ℕ) → watched ≡ watched_nets N P → (views : List LatchView) → AreLatchesOf N views
     → All (λ latch. has_place watched latch.reads.number ≡ true) views

@@ -1,3 +1,4 @@
+pub mod PlanNets
 pub mod Sim
 pub mod Shown
 pub mod SimView

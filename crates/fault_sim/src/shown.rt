@@ -2,11 +2,12 @@
 ghost use Rattle.std.specs.Prelude.{◌≡◌, ◌<◌, ◌≤◌, true, None, [], ◌∷◌, ◌++◌, length, map, take, IfOk, IsSome};
 ghost use Rattle.tsc_bits.specs.Bits.{binary};
 ghost use Rattle.fault_secure.specs.Circuit.{nets};
-ghost use Rattle.fault_secure.specs.CodePlan.{IsPlanOf, next_nets};
+ghost use Rattle.fault_secure.specs.CodePlan.{next_nets};
 ghost use Rattle.tsc_net.specs.Order.{has_place};
 ghost use Rattle.tsc_net.specs.PlanView.{net_numbers};
 ghost use Rattle.tsc_net.specs.Fault.{stuck_at_or_none};
 ghost use Rattle.tsc_net.specs.Limits.{most_nets};
+ghost use Rattle.fault_sim.specs.PlanNets.{HasPlanNets};
 ghost use Rattle.fault_sim.specs.Sim.{watched_nets, number_at, point_bit, first_bit, IsViewOf};
 ghost use Rattle.fault_sim.specs.Shown.{AreLatchesOf, IsShownOf, taken_bit};
 
@@ -39,7 +40,7 @@ pub(crate) fn shown_of<'a>(
     net: &Netlist,
     plan: &'a Plan,
 ) -> Result<Shown<'a>, AllocError>
-    requires plan { IsPlanOf net.now.circuit plan.now }
+    requires plan { HasPlanNets net.now.circuit plan.now }
     ensures shown { IfOk result (IsShownOf net.now.circuit plan.now) }
 {
     let outputs = first_nets(alloc, net.outputs(), plan.outputs)?;
@@ -104,7 +105,7 @@ pub(crate) fn bench_of<'a>(
     net: &'a Netlist,
     shown: &Shown,
 ) -> Result<Bench<'a>, AllocError>
-    requires plan { IsPlanOf net.now.circuit shown.now.plan.now }
+    requires plan { HasPlanNets net.now.circuit shown.now.plan.now }
     requires shown { IsShownOf net.now.circuit shown.now.plan.now shown.now }
     requires nets { nets net.now.circuit ≤ most_nets }
     ensures circuit { IfOk result (λ bench. bench.circuit ≡ net.now.circuit) }

@@ -2,11 +2,11 @@
 ghost use Rattle.std.specs.Prelude.{◌≡◌, ◌-◌, ◌*◌, ◌<◌, ◌≤◌, ◌^◌, ◌↔◌, Bool, false, List, length, All, IfOk, IsErrOf, IsSome};
 ghost use Rattle.fault_secure.specs.Circuit.{nets, bit};
 ghost use Rattle.fault_secure.specs.StuckAt.{present};
-ghost use Rattle.fault_secure.specs.CodePlan.{IsPlanOf};
 ghost use Rattle.fault_secure.specs.OneRun.{HasOneValuation};
 ghost use Rattle.tsc_net.specs.When.{has_step};
 ghost use Rattle.tsc_net.specs.Fault.{stuck_at_or_none};
 ghost use Rattle.tsc_net.specs.Limits.{most_nets};
+ghost use Rattle.fault_sim.specs.PlanNets.{HasPlanNets};
 ghost use Rattle.fault_sim.specs.Sim.{answer_of, is_fault, is_none_or_listed, next_fault, SettlesNext, ShowsFirst, IsCall, IsStill, IsOpened};
 ghost use Rattle.fault_sim.specs.Outcomes.{AreOutcomes};
 
@@ -63,7 +63,7 @@ impl<'a> Sim<'a> {
         fault: Option<Fault>,
         when: When,
     ) -> Result<Sim<'a>, SimError>
-        requires plan { IsPlanOf net.now.circuit plan.now }
+        requires plan { HasPlanNets net.now.circuit plan.now }
         requires nets { nets net.now.circuit ≤ most_nets }
         ensures opened { IfOk result (IsOpened net.now.circuit plan.now (stuck_at_or_none fault) when) }
         ensures not_listed { IsErrOf result SimError.NotListed ↔ (is_none_or_listed net.now.circuit (stuck_at_or_none fault) ≡ false) }
@@ -194,7 +194,7 @@ fn opened<'a>(
     fault: Option<Fault>,
     when: When,
 ) -> Result<Sim<'a>, AllocError>
-    requires plan { IsPlanOf net.now.circuit plan.now }
+    requires plan { HasPlanNets net.now.circuit plan.now }
     requires nets { nets net.now.circuit ≤ most_nets }
     ensures opened { IfOk result (IsOpened net.now.circuit plan.now (stuck_at_or_none fault) when) }
 {

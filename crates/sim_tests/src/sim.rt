@@ -16,6 +16,7 @@ const RING: &[u8] =
     b".inputs i\n.outputs p q i\n#tsc 2 mofn\n#tsc check q\n#tsc state 01\n#tsc state 10\n.latch q p 0\n.latch p q 1\n";
 
 /// A simulation of the latches, with a fault that is present at these steps.
+#[tactic(auto, using(fault_sim::proofs::PlanNets::plan_nets))]
 fn opened<'a>(alloc: Global, read: &'a PlannedNetlist, fault: Fault, steps: Span) -> Option<Sim<'a>>
     requires plan { IsPlanOf read.now.net.circuit read.now.plan }
     requires steps { steps.first ≤ steps.last }

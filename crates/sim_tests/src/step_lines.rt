@@ -68,6 +68,7 @@ fn print_text(
 }
 
 /// Prints the run over step lines.
+#[tactic(auto, using(fault_sim::proofs::PlanNets::plan_nets))]
 fn print_run(
     alloc: Global,
     sink: &mut MemSink,

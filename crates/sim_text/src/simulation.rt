@@ -1,10 +1,10 @@
 //! A simulation over the step lines of a text.
 ghost use Rattle.std.specs.Prelude.{◌≡◌, ◌≤◌, ◌↔◌, false, All, length, IsErrOf};
 ghost use Rattle.fault_secure.specs.Circuit.{nets};
-ghost use Rattle.fault_secure.specs.CodePlan.{IsPlanOf};
 ghost use Rattle.buffered_sink.specs.Output.{output};
 ghost use Rattle.tsc_net.specs.Fault.{stuck_at_or_none};
 ghost use Rattle.tsc_net.specs.Limits.{most_nets};
+ghost use Rattle.fault_sim.specs.PlanNets.{HasPlanNets};
 ghost use Rattle.fault_sim.specs.Sim.{is_none_or_listed};
 ghost use Rattle.sim_text.specs.Widths.{AreFew, AreWidthsOf};
 ghost use Rattle.sim_text.specs.Printed.{RunEnds, RunsEnd};
@@ -45,7 +45,7 @@ pub fn simulate<K: Sink>(
     when: When,
     steps: &StepLines,
 ) -> Result<(), RunError>
-    requires plan { IsPlanOf net.now.circuit plan.now }
+    requires plan { HasPlanNets net.now.circuit plan.now }
     requires nets { nets net.now.circuit ≤ most_nets }
     requires inputs { All (λ input. length input ≡ net.now.circuit.inputs) steps.now }
     ensures run { RunEnds net.now.circuit plan.now (stuck_at_or_none fault) when steps.now result (output (K.written sink.old) (K.faults sink.old) page.old) (output (K.written sink.new) (K.faults sink.new) page.new) }

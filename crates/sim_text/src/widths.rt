@@ -1,5 +1,5 @@
 //! How many bits a step shows.
-ghost use Rattle.fault_secure.specs.CodePlan.{IsPlanOf};
+ghost use Rattle.fault_sim.specs.PlanNets.{HasPlanNets};
 ghost use Rattle.sim_text.specs.Widths.{AreWidthsOf};
 
 use tsc_net::{Netlist, Plan};
@@ -17,7 +17,7 @@ pub(crate) struct Widths {
 
 /// How many bits a step of the netlist shows.
 pub(crate) fn widths_of(net: &Netlist, plan: &Plan) -> Widths
-    requires plan { IsPlanOf net.now.circuit plan.now }
+    requires plan { HasPlanNets net.now.circuit plan.now }
     ensures widths { AreWidthsOf net.now.circuit plan.now result }
 {
     Widths {

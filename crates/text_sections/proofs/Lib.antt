@@ -8,3 +8,4 @@ pub mod MachineLemmas
 pub mod TableLemmas
 pub mod PartLemmas
 pub mod StopLemmas
+pub mod AnyPlans
