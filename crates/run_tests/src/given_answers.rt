@@ -3,13 +3,14 @@
 use crate::runs::{Done, first_not_done};
 use crate::texts::{
     AND2, AND2_FAULTS, CHAINED, DUPLEX_CHAINED, DUPLEX_SHARING, DUPLEX_TICKED, DUPLEX_UNREAD, HELD,
-    LATCHED, LATCHED_FAULTS, LOOSE, ONE, SAFE_AND2, SAFE_LOOSE, SAFE_ONE, SAFE_SHARING, SAFE_WIRE,
-    SHARING, TICKED, TOGGLE, UNREAD, WATCHED_HELD, WATCHED_TICKED, WIRE, WIRE_FAULTS,
+    LATCHED, LATCHED_FAULTS, LISTLESS, LISTLESS_FAULTS, LOOSE, ONE, SAFE_AND2, SAFE_LOOSE,
+    SAFE_ONE, SAFE_SHARING, SAFE_WIRE, SHARING, TICKED, TOGGLE, UNREAD, WATCHED_HELD,
+    WATCHED_TICKED, WIRE, WIRE_FAULTS,
 };
 use std::test::Fail;
 
 /// Netlists and fault lists, as they follow from the stated constructions. Over one copy a netlist of one group is parity's.
-static WRITTEN: [Done; 21] = [
+static WRITTEN: [Done; 22] = [
     (b"synth blif parity", AND2, b"", SAFE_AND2),
     (b"synth blif parity", WIRE, b"", SAFE_WIRE),
     (b"synth blif parity", LOOSE, b"", SAFE_LOOSE),
@@ -31,6 +32,7 @@ static WRITTEN: [Done; 21] = [
     (b"faults", SAFE_AND2, b"", AND2_FAULTS),
     (b"faults", SAFE_WIRE, b"", WIRE_FAULTS),
     (b"faults", LATCHED, b"", LATCHED_FAULTS),
+    (b"faults", LISTLESS, b"", LISTLESS_FAULTS),
 ];
 
 #[test]
@@ -162,5 +164,45 @@ static MACHINES: [Done; 8] = [
 #[test]
 fn machines_are_run(rt: HostRuntime) -> Result<(), Fail> {
     assert_eq!(rt; first_not_done(rt.alloc(), &MACHINES)?, None);
+    Ok(())
+}
+
+/// Step by step, with registers of which no states are listed.
+static REGISTERS: [Done; 5] = [
+    (
+        b"sim none",
+        WATCHED_TICKED,
+        b"011\n010\n000\n011\n",
+        b"0 10 01 1010 01 quiet\n1 11 00 0101 10 quiet\n2 00 11 0000 10 quiet\n3 11 00 0000 01 quiet\n",
+    ),
+    (
+        b"sim stem p 0 0",
+        WATCHED_TICKED,
+        b"011\n010\n000\n011\n",
+        b"0 10 01 1010 01 quiet\n1 01 00 0001 00 alarm\n2 01 11 0000 00 alarm\n3 11 00 0000 01 quiet\n",
+    ),
+    (
+        b"sim stem t0_0 0 1",
+        WATCHED_HELD,
+        b"1\n1\n0\n1\n",
+        b"0 01 10 11 10 quiet\n1 10 10 01 00 alarm\n2 01 00 11 00 alarm\n3 10 01 00 01 quiet\n",
+    ),
+    (
+        b"sim pin p 0 0 0",
+        WATCHED_HELD,
+        b"1\n1\n0\n1\n",
+        b"0 01 10 11 10 quiet\n1 01 01 10 00 alarm\n2 11 10 11 11 alarm\n3 10 01 00 01 quiet\n",
+    ),
+    (
+        b"sim pin p 0 1 1",
+        LISTLESS,
+        b"0\n0\n1\n",
+        b"0 0 1 0 01 quiet\n1 0 1 0 01 quiet\n2 1 0 1 10 quiet\n",
+    ),
+];
+
+#[test]
+fn registers_are_simulated(rt: HostRuntime) -> Result<(), Fail> {
+    assert_eq!(rt; first_not_done(rt.alloc(), &REGISTERS)?, None);
     Ok(())
 }

@@ -2,15 +2,25 @@
 
 use crate::audits::{Audit, first_not_audited};
 use crate::runs::{Refused, first_not_refused};
-use crate::texts::{AND2, SAFE_AND2, SAFE_ONE, TOGGLE};
+use crate::texts::{AND2, SAFE_AND2, SAFE_ONE, TOGGLE, WATCHED_HELD, WATCHED_TICKED};
 use std::test::Fail;
 
 /// Netlists and mapped ones: a change of the mapped one for each answer.
-static ANSWERS: [Audit; 23] = [
+static ANSWERS: [Audit; 26] = [
     // Itself.
     (b"audit mapped", SAFE_AND2, SAFE_AND2, 0, b"yes\n"),
     // A machine's netlist, itself: its plan lines are passed over.
     (b"audit mapped", TOGGLE, TOGGLE, 0, b"yes\n"),
+    // Two copies of registers, itself; and with one copy's register that reads what the other's does.
+    (b"audit mapped", WATCHED_TICKED, WATCHED_TICKED, 0, b"yes\n"),
+    (b"audit mapped", WATCHED_HELD, WATCHED_HELD, 0, b"yes\n"),
+    (
+        b"audit mapped",
+        WATCHED_TICKED,
+        b".model ex\n.inputs clk a b\n.outputs y z t0_19 t0_23\n#tsc 1 parity\n#tsc group y t0_5\n#tsc group z t0_6\n#tsc watch p q t0_8\n.latch n1 p re clk 0\n.latch p q re clk 1\n.latch n1 t0_0 re clk 0\n.latch t0_0 t0_1 re clk 1\n.names a q n1\n11 1\n.names p b y\n1- 1\n-1 1\n.names q z\n0 1\n.names a t0_1 t0_2\n11 1\n.names t0_0 b t0_3\n1- 1\n-1 1\n.names t0_1 t0_4\n0 1\n.names t0_3 t0_5\n0 1\n.names t0_4 t0_6\n0 1\n.names t0_0 t0_1 t0_7\n10 1\n01 1\n.names t0_7 t0_8\n0 1\n.names y z t0_9\n11 1\n.names t0_5 t0_6 t0_10\n11 1\n.names t0_9 t0_10 t0_11\n1- 1\n-1 1\n.names p q t0_12\n10 1\n01 1\n.names t0_11 t0_12 t0_13\n11 1\n.names y t0_6 t0_14\n11 1\n.names t0_5 z t0_15\n11 1\n.names t0_14 t0_15 t0_16\n1- 1\n-1 1\n.names t0_16 t0_8 t0_17\n11 1\n.names t0_13 t0_17 t0_18\n1- 1\n-1 1\n.names t0_18 t0_19\n1 1\n.names t0_11 t0_8 t0_20\n11 1\n.names t0_16 t0_12 t0_21\n11 1\n.names t0_20 t0_21 t0_22\n1- 1\n-1 1\n.names t0_22 t0_23\n1 1\n.end\n",
+        1,
+        b"no latches\n",
+    ),
     // Another order, without plan lines; an and as two gates, a repeater as two inverters.
     (
         b"audit mapped",

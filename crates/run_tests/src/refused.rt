@@ -785,3 +785,132 @@ fn machines_have_a_bound(rt: HostRuntime) -> Result<(), Fail> {
     assert!(rt; ends(rt.alloc(), b"synth kiss berger", text, 4, b"", note)?);
     Ok(())
 }
+
+/// Netlists with registers whose plan lists no states.
+static LISTLESS: [Refused; 17] = [
+    (
+        b"faults",
+        b".inputs a\n.outputs p r s\n#tsc 1 parity\n#tsc group p c\n#tsc watch p\n.latch a p 0\n.names a c\n0 1\n.names p r\n1 1\n.names c s\n1 1\n.end\n",
+        b"",
+        3,
+        b"tsc: line 5: plan shape\n",
+    ),
+    (
+        b"faults",
+        b".inputs a\n.outputs p r s\n#tsc watch p c\n#tsc 1 parity\n#tsc group p c\n.latch a p 0\n.names a c\n0 1\n.names p r\n1 1\n.names c s\n1 1\n.end\n",
+        b"",
+        3,
+        b"tsc: line 3: plan shape\n",
+    ),
+    (
+        b"faults",
+        b".inputs a\n.outputs p r s\n#tsc 1 parity\n#tsc group p c\n#tsc watch q c\n.latch a p 0\n.names a c\n0 1\n.names p r\n1 1\n.names c s\n1 1\n.end\n",
+        b"",
+        3,
+        b"tsc: line 5: plan name\n",
+    ),
+    (
+        b"faults",
+        b".inputs a\n.outputs p r s\n#tsc 1 parity\n#tsc group p c\n#tsc watch p q\n.latch a p 0\n.names a c\n0 1\n.names p r\n1 1\n.names c s\n1 1\n.end\n",
+        b"",
+        3,
+        b"tsc: line 5: plan name\n",
+    ),
+    (
+        b"sim none",
+        b".inputs a\n.outputs p r s\n#tsc 1 parity\n#tsc group p c\n#tsc watch a c\n.latch a p 0\n.names a c\n0 1\n.names p r\n1 1\n.names c s\n1 1\n.end\n",
+        b"",
+        3,
+        b"tsc: line 3: plan shape\n",
+    ),
+    (
+        b"sim none",
+        b".inputs a\n.outputs p r s\n#tsc 1 parity\n#tsc group p c\n#tsc watch p p c\n.latch a p 0\n.names a c\n0 1\n.names p r\n1 1\n.names c s\n1 1\n.end\n",
+        b"",
+        3,
+        b"tsc: line 3: plan shape\n",
+    ),
+    (
+        b"faults",
+        b".inputs a\n.outputs p r s\n#tsc 1 parity\n#tsc group p c\n#tsc watch p c\n#tsc watch p c\n.latch a p 0\n.names a c\n0 1\n.names p r\n1 1\n.names c s\n1 1\n.end\n",
+        b"",
+        3,
+        b"tsc: line 3: plan shape\n",
+    ),
+    (
+        b"faults",
+        b".inputs a\n.outputs p r s\n#tsc 2 parity\n#tsc group p c\n.latch a p 0\n.latch a q 0\n.names a c\n0 1\n.names p r\n1 1\n.names c s\n1 1\n.end\n",
+        b"",
+        3,
+        b"tsc: line 3: plan shape\n",
+    ),
+    (
+        b"faults",
+        b".inputs a\n.outputs p r s\n#tsc 1 berger\n#tsc check c\n.latch a p 0\n.names a c\n0 1\n.names p r\n1 1\n.names c s\n1 1\n.end\n",
+        b"",
+        3,
+        b"tsc: line 3: plan shape\n",
+    ),
+    (
+        b"faults",
+        b".inputs a\n.outputs p r s\n#tsc 1 parity\n#tsc group p c\n#tsc state 01\n#tsc state 10\n#tsc watch p c\n.latch a p 0\n.latch a q 0\n.names a c\n0 1\n.names p r\n1 1\n.names c s\n1 1\n.end\n",
+        b"",
+        3,
+        b"tsc: line 3: plan shape\n",
+    ),
+    (
+        b"faults",
+        b".inputs a\n.outputs p r s\n#tsc 1 parity\n#tsc group p c\n#tsc watch p c\n.names a p\n1 1\n.names a c\n0 1\n.names p r\n1 1\n.names c s\n1 1\n.end\n",
+        b"",
+        3,
+        b"tsc: line 3: plan shape\n",
+    ),
+    (
+        b"faults",
+        b".inputs a\n.outputs p r s\n#tsc 1 parity\n#tsc group p c\n.latch a p re k 0\n.latch a q re l 0\n.names a c\n0 1\n.names p r\n1 1\n.names c s\n1 1\n.end\n",
+        b"",
+        3,
+        b"tsc: line 6: latch clock\n",
+    ),
+    (
+        b"sim none",
+        b".inputs a\n.outputs p r s\n#tsc 1 parity\n#tsc group p c\n.latch a p re k 0\n.latch a q 0\n.names a c\n0 1\n.names p r\n1 1\n.names c s\n1 1\n.end\n",
+        b"",
+        3,
+        b"tsc: line 6: latch clock\n",
+    ),
+    (
+        b"audit mapped",
+        b".inputs a\n.outputs p r s\n#tsc 1 parity\n#tsc group p c\n.latch a p ah k 0\n.latch a q ah k 0\n.names a c\n0 1\n.names p r\n1 1\n.names c s\n1 1\n.end\n",
+        b"",
+        3,
+        b"tsc: line 5: latch clock\n",
+    ),
+    (
+        b"vectors",
+        b".inputs a\n.outputs p r s\n#tsc 1 parity\n#tsc group p c\n.latch a p 0\n.names a c\n0 1\n.names p r\n1 1\n.names c s\n1 1\n.end\n",
+        b"",
+        3,
+        b"tsc: line 3: plan shape\n",
+    ),
+    (
+        b"join",
+        b".inputs a\n.outputs p r s\n#tsc 1 parity\n#tsc group p c\n.latch a p 0\n.names a c\n0 1\n.names p r\n1 1\n.names c s\n1 1\n.end\n",
+        b"",
+        3,
+        b"tsc: line 3: plan shape\n",
+    ),
+    (
+        b"vectors",
+        b".inputs a\n.outputs p r s\n#tsc 1 parity\n#tsc group p c\n#tsc watch p c\n.latch a p 0\n.names a c\n0 1\n.names p r\n1 1\n.names c s\n1 1\n.end\n",
+        b"",
+        3,
+        b"tsc: line 5: plan shape\n",
+    ),
+];
+
+#[test]
+fn plans_without_states_are_refused(rt: HostRuntime) -> Result<(), Fail> {
+    assert_eq!(rt; first_not_refused(rt.alloc(), &LISTLESS)?, None);
+    Ok(())
+}

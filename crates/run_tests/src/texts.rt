@@ -77,6 +77,14 @@ pub const UNREAD: &[u8] = b".model l\n.inputs a\n.outputs y\n.latch a p 2\n.name
 pub const DUPLEX_UNREAD: &[u8] =
     b".model l\n.inputs a\n.outputs y t0_2 t0_3\n#tsc 1 parity\n#tsc group y t0_1\n.names a y\n0 1\n.names a t0_0\n0 1\n.names t0_0 t0_1\n0 1\n.names y t0_2\n1 1\n.names t0_1 t0_3\n1 1\n.end\n";
 
+/// A register whose plan lists no states, which is watched: a netlist to be read, and secure for nothing.
+pub const LISTLESS: &[u8] =
+    b".inputs a\n.outputs p r s\n#tsc 1 parity\n#tsc group p c\n#tsc watch p c\n.latch a p 0\n.names a c\n0 1\n.names p r\n1 1\n.names c s\n1 1\n.end\n";
+
+/// Its faults: the register first.
+pub const LISTLESS_FAULTS: &[u8] =
+    b"stem p 0\nstem p 1\npin p 0 0\npin p 0 1\nstem c 0\nstem c 1\npin c 0 0\npin c 0 1\nstem r 0\nstem r 1\npin r 0 0\npin r 0 1\nstem s 0\nstem s 1\npin s 0 0\npin s 0 1\ntotal 16\n";
+
 /// Two latches that hold their values, one of two states.
 pub const LATCHED: &[u8] =
     b".inputs x\n.outputs y r1 r2\n#tsc 2 berger\n#tsc check p\n#tsc state 01\n.latch e s 0\n.latch f u 1\n.names y\n.names p\n1\n.names e\n.names f\n1\n.names y p e f r1\n1-1- 1\n-1-1 1\n.names y p e f r2\n1--1 1\n-11- 1\n.end\n";
