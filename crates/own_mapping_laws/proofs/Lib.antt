@@ -1,2 +1,3 @@
 pub mod WholeText
 pub mod OwnMapping
+pub mod MappedTwins

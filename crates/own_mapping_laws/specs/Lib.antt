@@ -1,1 +1,2 @@
 pub mod OwnMappings
+pub mod MappedTwins
