@@ -34,7 +34,7 @@ use Rattle.blif_read.specs.declared.kinds.Kind.TheVariants.{Netlist}
 use Rattle.blif_read.specs.declared.kinds.LineKind.{LineKind}
 use Rattle.blif_read.specs.declared.kinds.LineKind.TheVariants.{PlanLine, Model, Inputs, Outputs, Names, Latch, OtherDirective, Row}
 use Rattle.blif_read.specs.declared.plan_lines.PlanKind.{PlanKind}
-use Rattle.blif_read.specs.declared.plan_lines.PlanKind.TheVariants.{CodeLine, GroupLine, CheckLine, StateLine, OtherLine}
+use Rattle.blif_read.specs.declared.plan_lines.PlanKind.TheVariants.{CodeLine, GroupLine, CheckLine, StateLine, WatchLine, OtherLine}
 use Rattle.blif_read.specs.declared.seen.OpenCover.{OpenCover}
 use Rattle.blif_read.specs.declared.seen.Seen.{Seen}
 use Rattle.blif_read.proofs.Scanned.{first_fault_is}
@@ -52,12 +52,13 @@ by_kind f g plan model inputs outputs names latch other row OtherDirective = oth
 by_kind f g plan model inputs outputs names latch other row Row = row
 
 by_plan_kind : {A : Type 0} (f g : PlanKind → A) → f CodeLine ≡ g CodeLine → f GroupLine ≡ g GroupLine → f CheckLine ≡ g CheckLine
-    → f StateLine ≡ g StateLine → f OtherLine ≡ g OtherLine → (kind : PlanKind) → f kind ≡ g kind
-by_plan_kind f g code group check state other CodeLine = code
-by_plan_kind f g code group check state other GroupLine = group
-by_plan_kind f g code group check state other CheckLine = check
-by_plan_kind f g code group check state other StateLine = state
-by_plan_kind f g code group check state other OtherLine = other
+    → f StateLine ≡ g StateLine → f WatchLine ≡ g WatchLine → f OtherLine ≡ g OtherLine → (kind : PlanKind) → f kind ≡ g kind
+by_plan_kind f g code group check state watch other CodeLine = code
+by_plan_kind f g code group check state watch other GroupLine = group
+by_plan_kind f g code group check state watch other CheckLine = check
+by_plan_kind f g code group check state watch other StateLine = state
+by_plan_kind f g code group check state watch other WatchLine = watch
+by_plan_kind f g code group check state watch other OtherLine = other
 
 module _ (more : ℕ) where
   -- ---- the netlist
@@ -155,22 +156,22 @@ module _ (more : ℕ) where
   group_outputs_moved : (lines : List TextLine) → group_outputs (moved more lines) ≡ group_outputs lines
   group_outputs_moved lines =
       picked_moved (λ line. group_outputs_at (kind_in_plan line) line)
-      (λ line. by_plan_kind (λ k. group_outputs_at k (moved_line more line)) (λ k. group_outputs_at k line) refl refl refl refl refl (kind_in_plan line)) lines
+      (λ line. by_plan_kind (λ k. group_outputs_at k (moved_line more line)) (λ k. group_outputs_at k line) refl refl refl refl refl refl (kind_in_plan line)) lines
 
   group_checks_moved : (lines : List TextLine) → group_checks (moved more lines) ≡ group_checks lines
   group_checks_moved lines =
       picked_moved (λ line. group_check_at (kind_in_plan line) line)
-      (λ line. by_plan_kind (λ k. group_check_at k (moved_line more line)) (λ k. group_check_at k line) refl refl refl refl refl (kind_in_plan line)) lines
+      (λ line. by_plan_kind (λ k. group_check_at k (moved_line more line)) (λ k. group_check_at k line) refl refl refl refl refl refl (kind_in_plan line)) lines
 
   check_names_moved : (lines : List TextLine) → check_names (moved more lines) ≡ check_names lines
   check_names_moved lines =
       picked_moved (λ line. checks_at (kind_in_plan line) line)
-      (λ line. by_plan_kind (λ k. checks_at k (moved_line more line)) (λ k. checks_at k line) refl refl refl refl refl (kind_in_plan line)) lines
+      (λ line. by_plan_kind (λ k. checks_at k (moved_line more line)) (λ k. checks_at k line) refl refl refl refl refl refl (kind_in_plan line)) lines
 
   state_words_moved : (lines : List TextLine) → state_words (moved more lines) ≡ state_words lines
   state_words_moved lines =
       picked_moved (λ line. state_at (kind_in_plan line) line)
-      (λ line. by_plan_kind (λ k. state_at k (moved_line more line)) (λ k. state_at k line) refl refl refl refl refl (kind_in_plan line)) lines
+      (λ line. by_plan_kind (λ k. state_at k (moved_line more line)) (λ k. state_at k line) refl refl refl refl refl refl (kind_in_plan line)) lines
 
   group_lines_moved : (lines : List TextLine) → group_lines (moved more lines) ≡ group_lines lines
   group_lines_moved lines = fold-map (λ (count : ℕ) (line : TextLine). count + cond (is_group_line (kind_in_plan line)) 1 0) (moved_line more) 0 lines
@@ -241,7 +242,7 @@ module _ (more : ℕ) where
     names_known [] known = refl
     names_known (line ∷ lines) known =
         ap (λ names. if is_unknown names then Some (line.number + more) else first_unknown net.names (moved more lines))
-        (by_plan_kind (λ k. names_at k (moved_line more line)) (λ k. names_at k line) refl refl refl refl refl (kind_in_plan line))
+        (by_plan_kind (λ k. names_at k (moved_line more line)) (λ k. names_at k line) refl refl refl refl refl refl (kind_in_plan line))
         ∙ choice (is_unknown (names_at (kind_in_plan line) line)) known (λ later. names_known lines later)
       where
         choice : (b : Bool) → (if b then Some line.number else first_unknown net.names lines) ≡ None

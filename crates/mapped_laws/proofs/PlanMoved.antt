@@ -21,7 +21,7 @@ use Rattle.blif_read.specs.Planned.{IsPlannedAt, ArePlanned}
 use Rattle.blif_read.specs.PlanText.{code_line, version_of, code_in, kind_in_plan, names_at, group_outputs, group_outputs_at, group_checks, group_check_at, check_names, checks_at, state_words, weight_of, bits_of_word, source_outputs, net_named, output_place, groups_for, checks_for, plan_with}
 use Rattle.blif_read.specs.PlanFault.{first_unknown, has_lines_for, has_checks_for, fits_latches, is_right, shape_refusal, name_refusal, head_refusal}
 use Rattle.blif_read.specs.declared.plan_lines.PlanKind.{PlanKind}
-use Rattle.blif_read.specs.declared.plan_lines.PlanKind.TheVariants.{CodeLine, GroupLine, CheckLine, StateLine, OtherLine}
+use Rattle.blif_read.specs.declared.plan_lines.PlanKind.TheVariants.{CodeLine, GroupLine, CheckLine, StateLine, WatchLine, OtherLine}
 use Rattle.blif_read.specs.declared.error.BlifError.{BlifError}
 use Rattle.blif_read.specs.declared.error.BlifError.TheVariants.{PlanShape}
 use Rattle.blif_read.proofs.PlanMade.{keeps_all}
@@ -89,6 +89,7 @@ module _ (names : List (List ℕ)) where
       by CodeLine h rest = rest
       by GroupLine h rest = rest
       by StateLine h rest = rest
+      by WatchLine h rest = rest
       by OtherLine h rest = rest
 
   there_in_group_checks : (lines : List TextLine) → ArePlanned lines → first_unknown names lines ≡ None → All (There names) (group_checks lines)
@@ -103,6 +104,7 @@ module _ (names : List (List ℕ)) where
       by CodeLine p h rest = rest
       by CheckLine p h rest = rest
       by StateLine p h rest = rest
+      by WatchLine p h rest = rest
       by OtherLine p h rest = rest
 
   there_for : (code : Code) (lines : List TextLine) → ArePlanned lines → first_unknown names lines ≡ None → All (There names) (checks_for code lines)
@@ -122,6 +124,7 @@ module _ (names : List (List ℕ)) where
       by CodeLine h rest = rest
       by CheckLine h rest = rest
       by StateLine h rest = rest
+      by WatchLine h rest = rest
       by OtherLine h rest = rest
 
   -- names that are all there in another list aren't unknown there

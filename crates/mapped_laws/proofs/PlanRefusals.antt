@@ -16,7 +16,7 @@ use Rattle.blif_read.specs.Refusal.{netlist_refusal}
 use Rattle.blif_read.specs.declared.error.BlifError.TheVariants.{PlanShape}
 use Rattle.blif_read.specs.declared.kinds.Kind.TheVariants.{Netlist}
 use Rattle.blif_read.specs.declared.plan_lines.PlanKind.{PlanKind}
-use Rattle.blif_read.specs.declared.plan_lines.PlanKind.TheVariants.{CodeLine, GroupLine, CheckLine, StateLine, OtherLine}
+use Rattle.blif_read.specs.declared.plan_lines.PlanKind.TheVariants.{CodeLine, GroupLine, CheckLine, StateLine, WatchLine, OtherLine}
 use Rattle.blif_read.proofs.PlannedLines.{planned_section}
 use Rattle.mapped_laws.specs.MappedLaws.{plan_words, section_net, PlanRefusalsAreInPlanLines, PutPlanLinesAreAllowed}
 use Rattle.mapped_laws.proofs.BuiltNetlists.{section_is_built}
@@ -33,6 +33,7 @@ names_of_words = record { other = λ line. refl; same = same }
     same GroupLine line = refl
     same CheckLine line = refl
     same StateLine line = refl
+    same WatchLine line = refl
     same OtherLine line = refl
 
 module _ (names : List (List ℕ)) where

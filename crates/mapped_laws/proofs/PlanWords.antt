@@ -14,7 +14,7 @@ use Rattle.blif_read.specs.Refusal.{netlist_refusal, first_refusal}
 use Rattle.blif_read.specs.declared.error.BlifError.{BlifError}
 use Rattle.blif_read.specs.declared.kinds.Kind.TheVariants.{Netlist}
 use Rattle.blif_read.specs.declared.plan_lines.PlanKind.{PlanKind}
-use Rattle.blif_read.specs.declared.plan_lines.PlanKind.TheVariants.{CodeLine, GroupLine, CheckLine, StateLine, OtherLine}
+use Rattle.blif_read.specs.declared.plan_lines.PlanKind.TheVariants.{CodeLine, GroupLine, CheckLine, StateLine, WatchLine, OtherLine}
 use Rattle.blif_read.proofs.PlannedLines.{planned_section}
 use Rattle.mapping_laws.specs.Mapping.{moved_plan}
 use Rattle.mapping_reading.specs.Pins.{at_of}
@@ -61,6 +61,7 @@ groups_of_words = record { other = λ line. refl; same = same }
     same GroupLine line = refl
     same CheckLine line = refl
     same StateLine line = refl
+    same WatchLine line = refl
     same OtherLine line = refl
 
 group_checks_of_words : IsOfWords group_check_at
@@ -71,6 +72,7 @@ group_checks_of_words = record { other = λ line. refl; same = same }
     same GroupLine line = refl
     same CheckLine line = refl
     same StateLine line = refl
+    same WatchLine line = refl
     same OtherLine line = refl
 
 checks_of_words : IsOfWords checks_at
@@ -81,6 +83,7 @@ checks_of_words = record { other = λ line. refl; same = same }
     same GroupLine line = refl
     same CheckLine line = refl
     same StateLine line = refl
+    same WatchLine line = refl
     same OtherLine line = refl
 
 states_of_words : IsOfWords state_at
@@ -91,6 +94,7 @@ states_of_words = record { other = λ line. refl; same = same }
     same GroupLine line = refl
     same CheckLine line = refl
     same StateLine line = refl
+    same WatchLine line = refl
     same OtherLine line = refl
 
 -- ---- the code line
