@@ -279,7 +279,7 @@ module _ (more : ℕ) where
   plan_fault_moved : (seen : Seen) (line : TextLine) → plan_line_fault Netlist seen (moved_line more line) ≡ plan_line_fault Netlist seen line
   plan_fault_moved seen line =
       ap (λ b. if b then None else Some cause.PlanShape)
-      (by_plan_kind (λ k. has_plan_shape k seen.has_plan (moved_line more line)) (λ k. has_plan_shape k seen.has_plan line) refl refl refl refl refl
+      (by_plan_kind (λ k. has_plan_shape k seen.has_plan (moved_line more line)) (λ k. has_plan_shape k seen.has_plan line) refl refl refl refl refl refl
       (plan_kind (the_word line 0)))
 
   row_fault_moved : (cover : Option OpenCover) (line : TextLine) → row_fault cover (moved_line more line) ≡ row_fault cover line
