@@ -120,6 +120,27 @@ def fresh_names(taken):
     return (f"m{number}_{k}" for k in itertools.count())
 
 
+def free(name, taken):
+    """This name, or the first with a number behind it that isn't taken."""
+    number, made = 0, name
+    while made in taken:
+        number, made = number + 1, f"{name}_{number + 1}"
+    taken.add(made)
+    return made
+
+
+def is_unsafe(name):
+    """Whether a preprocessor of Verilog would see a comment, a macro or a string in it."""
+    return re.search(r"/[/*]|[`\"]", name) is not None
+
+
+def safe_names(model):
+    """Another name for each net that has an unsafe one."""
+    nets = plain_names(model)
+    taken = set(nets)
+    return {it: free("net", taken) for it in nets if is_unsafe(it)}
+
+
 def rename(model, name):
     """Each net of the model by its new name."""
     if model.clock and model.clock[1] in model.inputs:

@@ -39,7 +39,9 @@ class Port:
 
     def __init__(self, name, it):
         self.name, self.direction, nets, first = name, it["direction"], it["bits"], it.get("offset", 0)
-        self.width, last = len(nets), it.get("offset", 0) + len(nets) - 1
+        self.width, last = len(nets), first + len(nets) - 1
+        ends = (first, last) if it.get("upto") else (last, first)
+        self.range = f"[{ends[0]}:{ends[1]}]" if self.width > 1 or first else ""  # as it is declared; none of one bit
         index = (lambda place: last - place) if it.get("upto") else (lambda place: first + place)
         self.named = [(name if self.width == 1 else f"{name}[{index(place)}]", net) for place, net in reversed(list(enumerate(nets)))]
 
