@@ -40,11 +40,10 @@ use Rattle.commands.specs.declared.command.Command.TheVariants.{Audit, AuditExac
 use Rattle.commands.specs.declared.source_format.SourceFormat.{SourceFormat}
 use Rattle.commands.specs.declared.source_format.SourceFormat.TheVariants.{Blif, Kiss, Pla}
 use Rattle.answer_laws.specs.AnswerLaws.{AnswersAreAccepted, IsAcceptedBehind, IsEndedSource, LooseAnswersAreAccepted, MachineAnswersAreAccepted, two_states}
-use Rattle.answers.specs.Answers.{IsAnswer, IsNo}
+use Rattle.answers.specs.Commands.{IsAnswer, IsNo, refusal_of}
 use Rattle.text_sections.specs.Denoted.{behind_source, inputs_in, machine_in, net_from, netlist_in, outputs_in, plan_from, plan_in, second_netlist_in, second_plan_in, source_in, source_of, values_in}
 use Rattle.text_sections.specs.Refused.{byte_refusal, lines_refusal, machine_lines_refusal, netlist_refusal, pla_lines_refusal, text_refusal}
 use Rattle.netlist_answers.specs.Refused.{audit_points_refusal, has_too_many_audit_points}
-use Rattle.answers.specs.Refused.{refusal_of}
 use Rattle.netlist_answers.specs.Answers.{IsAcceptanceOf}
 use Rattle.netlist_answers.proofs.AuditLemmas.{allowed_behind, allowed_lines}
 use Rattle.answer_laws.proofs.BehindSource.{IsKept, allowed_in_a_row, lines_in_a_row, machine_kept, netlist_allowed, network_kept, second_net, second_plan, table_kept}

@@ -21,11 +21,11 @@ use Rattle.commands.specs.declared.sim_words.SimFault.TheVariants.{NoFault}
 use Rattle.commands.specs.declared.source_format.SourceFormat.{SourceFormat}
 use Rattle.commands.specs.declared.source_format.SourceFormat.TheVariants.{Blif, Kiss, Pla}
 use Rattle.netlist_answers.specs.Answers.{IsVectorList}
-use Rattle.answers.specs.Answers.{AnswerTable, IsAnswer, IsLooseSynthesis, IsNo, IsSynthesis, IsMachineSynthesis}
+use Rattle.answers.specs.Commands.{IsAnswer, IsNo, refusal_of}
+use Rattle.answers.specs.Answers.{AnswerTable, IsLooseSynthesis, IsSynthesis, IsMachineSynthesis}
 use Rattle.text_sections.specs.Denoted.{frees_in, netlist_in, plan_in, source_in, table_in, values_in}
 use Rattle.text_sections.specs.Refused.{machine_text_refusal, pla_text_refusal, text_refusal}
 use Rattle.netlist_answers.specs.Refused.{has_too_many_points, points_refusal}
-use Rattle.answers.specs.Refused.{refusal_of}
 use Rattle.netlist_answers.specs.VectorList.{untestable}
 
 -- the commands that read a netlist refuse this text neither for its faults nor for a simulation without a fault and without steps, and

@@ -1,6 +1,5 @@
 -- What the answer of a command is to the text that was read. Each definition is a function of the two texts' bytes.
-use Rattle.std.specs.Prelude.{◌≡◌, ◌≤◌, ℕ, true, false, List, length, None}
-use Rattle.tsc_text.specs.Lines.{lines_of}
+use Rattle.std.specs.Prelude.{◌≡◌, ◌≤◌, ℕ, false, List, length, None}
 use Rattle.fault_secure.specs.declared.code.Code.{Code}
 use Rattle.synth_ways.specs.declared.way.Way.{Way}
 use Rattle.synth_ways.specs.declared.way.Way.TheVariants.{Parity, Duplex, Berger, MOutOfN}
@@ -20,20 +19,10 @@ use Rattle.duplex_synth.specs.DuplexNet.{duplex_netlist, duplex_plan}
 use Rattle.pla_read.specs.Networks.{AnswersAs}
 use Rattle.pla_read.specs.TableText.{is_free, is_one, TableOf}
 use Rattle.structure_laws.specs.LooseSource.{with_version}
-use Rattle.commands.specs.declared.command.Command.{Command}
-use Rattle.commands.specs.declared.command.Command.TheVariants.{SynthBlif, SynthWatched, SynthKiss, SynthPla, Audit, AuditWide, AuditExact, AuditMapped, Faults, Vectors, Sim, Join}
-use Rattle.refusals.specs.declared.ending.Ending.{Ending}
-use Rattle.refusals.specs.declared.ending.Ending.TheVariants.{Finished, Rejected}
 use Rattle.text_sections.specs.Denoted.{frees_in, inputs_in, machine_in, netlist_in, outputs_in, plan_in, table_in, values_in}
 use Rattle.text_sections.specs.Refused.{text_refusal}
-use Rattle.commands.specs.Words.{code_of}
 pub use Rattle.answers.specs.NetworkAnswers.{IsSecureFor, IsSynthesis}
 use Rattle.answers.specs.TwinAnswers.{IsTwinAnswer}
-use Rattle.exact_answers.specs.ExactReply.{IsExactReply}
-use Rattle.joint_answers.specs.JointReply.{IsJointReply}
-use Rattle.mapping_answers.specs.MappedReply.{IsMappedReply}
-use Rattle.wide_answers.specs.WideReply.{IsWideReply}
-use Rattle.netlist_answers.specs.Answers.{IsAcceptance, IsFaultList, IsRejection, IsSimulation, IsVectorList}
 
 -- a netlist with its plan is what the code asks for of the machine whose inputs and outputs have these names: within the bound on
 -- covers, of sound structure and following it, and so secure for it, whichever one cell fails in any way, and whichever one listed fault
@@ -91,31 +80,3 @@ IsBlifSynthesis Parity text answer = IsSynthesis Parity text answer
 IsBlifSynthesis Duplex text answer = IsTwinAnswer false text answer
 IsBlifSynthesis Berger text answer = IsSynthesis Berger text answer
 IsBlifSynthesis MOutOfN text answer = IsSynthesis MOutOfN text answer
-
--- the answer of a command to a text, where it finishes what it was asked for
-abbrev pub IsAnswer : Command → List ℕ → List ℕ → Type 0
-IsAnswer (SynthBlif way) text answer = IsBlifSynthesis way text answer
-IsAnswer SynthWatched text answer = IsTwinAnswer true text answer
-IsAnswer (SynthKiss code) text answer = IsMachineSynthesis (code_of code) text answer
-IsAnswer (SynthPla way) text answer = IsLooseSynthesis way text answer
-IsAnswer (Audit format) text answer = IsAcceptance format text answer
-IsAnswer (AuditWide rows) text answer = IsWideReply Finished rows text answer
-IsAnswer (AuditExact format) text answer = IsExactReply Finished format text answer
-IsAnswer AuditMapped text answer = IsMappedReply Finished text answer
-IsAnswer Faults text answer = IsFaultList text answer
-IsAnswer Vectors text answer = IsVectorList text answer
-IsAnswer (Sim fault) text answer = IsSimulation fault (lines_of text) answer
-IsAnswer Join text answer = IsJointReply text answer
-
--- the answer of a command to a text, where its verdict is no: an audit's alone
-abbrev pub IsNo : Command → List ℕ → List ℕ → Type 0
-IsNo (Audit format) text answer = IsRejection format text answer
-IsNo (AuditWide rows) text answer = IsWideReply Rejected rows text answer
-IsNo (AuditExact format) text answer = IsExactReply Rejected format text answer
-IsNo AuditMapped text answer = IsMappedReply Rejected text answer
-IsNo _ text answer = ⊥
-
--- the answer of a command to a text, by how the command ends
-abbrev pub IsReply : Ending → Command → List ℕ → List ℕ → Type 0
-IsReply Finished command text answer = IsAnswer command text answer
-IsReply Rejected command text answer = IsNo command text answer

@@ -2,3 +2,4 @@ pub mod Refused
 pub mod NetworkAnswers
 pub mod TwinAnswers
 pub mod Answers
+pub mod Commands

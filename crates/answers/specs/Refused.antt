@@ -4,26 +4,14 @@ use Rattle.fault_secure.specs.Logic.{StateTable}
 use Rattle.fault_secure.specs.declared.code.Code.{Code}
 use Rattle.synth_ways.specs.declared.way.Way.{Way}
 use Rattle.synth_ways.specs.declared.way.Way.TheVariants.{Parity, Duplex, Berger, MOutOfN}
-use Rattle.blif_read.specs.declared.kinds.Kind.TheVariants.{AnyPlan, Registers, Source}
+use Rattle.blif_read.specs.declared.kinds.Kind.TheVariants.{Registers, Source}
 use Rattle.tsc_synth.specs.CoverBound.{is_too_large, is_too_large_twin}
 use Rattle.tsc_synth.specs.MachineLimits.{has_too_many_states, takes_too_many_covers}
-use Rattle.commands.specs.declared.command.Command.{Command}
-use Rattle.commands.specs.declared.command.Command.TheVariants.{SynthBlif, SynthWatched, SynthKiss, SynthPla, Audit, AuditWide, AuditExact, AuditMapped, Faults, Vectors, Sim, Join}
 use Rattle.refusals.specs.declared.limit.Limit.TheVariants.{States, Covers}
-use Rattle.refusals.specs.declared.limit.OwnLimit.{OwnLimit}
-use Rattle.refusals.specs.declared.limit.OwnLimit.TheVariants.{Rows, Pins}
-use Rattle.refusals.specs.declared.refusal.Refusal.{Refusal}
 use Rattle.refusals.specs.declared.text_refusal.TextRefusal.{TextRefusal}
 use Rattle.refusals.specs.declared.text_refusal.TextRefusal.TheVariants.{TooMany}
 use Rattle.text_sections.specs.Denoted.{machine_in, netlist_in, values_in}
-use Rattle.commands.specs.Words.{code_of}
-use Rattle.text_sections.specs.Refused.{StopsBeyond, first_of, machine_text_refusal, pla_text_refusal, text_refusal}
-use Rattle.netlist_answers.specs.Refused.{audit_refusal, sim_refusal, vectors_refusal}
-use Rattle.joint_answers.specs.JointParts.{join_refusal}
-use Rattle.wide_answers.specs.WideReply.{NeedsMoreRows}
-use Rattle.wide_answers.specs.WideSections.{wide_refusal}
-use Rattle.mapping_answers.specs.MappedReply.{HasWideCover}
-use Rattle.mapping_answers.specs.MappedSections.{mapped_in, mapped_refusal}
+use Rattle.text_sections.specs.Refused.{first_of, machine_text_refusal, pla_text_refusal, text_refusal}
 
 -- a source whose netlist would have too many covers
 abbrev pub size_refusal : Bool → Option TextRefusal
@@ -61,34 +49,3 @@ synth_machine_refusal code text = first_of (machine_text_refusal text) (limits_r
 -- a table for a netlist by a way: its text, then the bound on the covers of the netlist of its values
 abbrev pub synth_loose_refusal : Way → List ℕ → Option TextRefusal
 synth_loose_refusal way text = first_of (pla_text_refusal text) (size_refusal (is_too_large way (values_in text).circuit))
-
--- the first refusal of a text by a command
-abbrev pub refusal_of : Command → List ℕ → Option TextRefusal
-refusal_of (SynthBlif way) text = blif_refusal way text
-refusal_of SynthWatched text = twin_refusal true text
-refusal_of (SynthKiss code) text = synth_machine_refusal (code_of code) text
-refusal_of (SynthPla way) text = synth_loose_refusal way text
-refusal_of (Audit format) text = audit_refusal format text
-refusal_of (AuditWide rows) text = wide_refusal text
-refusal_of (AuditExact format) text = audit_refusal format text
-refusal_of AuditMapped text = mapped_refusal text
-refusal_of Faults text = text_refusal AnyPlan text
-refusal_of Vectors text = vectors_refusal text
-refusal_of (Sim fault) text = sim_refusal fault text
-refusal_of Join text = join_refusal text
-
--- the limit of a command that no refusal of the text is: rows of decision diagrams, and the pins of a cover that is tried
-abbrev pub own_limit : Command → Option OwnLimit
-own_limit (AuditWide rows) = Some (Rows rows)
-own_limit AuditMapped = Some Pins
-own_limit _ = None
-
--- a text that nothing refuses passes the limit of the command: it needs more rows, or a cover is too wide to be tried
-abbrev pub PassesLimit : Command → List ℕ → Type 0
-PassesLimit (AuditWide rows) text = NeedsMoreRows rows text
-PassesLimit AuditMapped text = HasWideCover (netlist_in text) (mapped_in text)
-PassesLimit _ text = ⊥
-
--- why a command stops at a text: what refuses the text, or its own limit
-abbrev pub StopsAt : Command → List ℕ → Refusal → Type 0
-StopsAt command text refusal = StopsBeyond (own_limit command) (refusal_of command text) (PassesLimit command text) refusal

@@ -1,8 +1,7 @@
 //! The answer of a command to a text.
 ghost use Rattle.std.specs.Prelude.{◌≡◌, ◌≤◌, false, None, length, IfOk, IfErr, OnOk};
-ghost use Rattle.answers.specs.Answers.{IsReply};
+ghost use Rattle.answers.specs.Commands.{IsReply, refusal_of, StopsAt};
 ghost use Rattle.netlist_answers.specs.Printout.{IsPrintable, is_sim, printout_ending, printout_text};
-ghost use Rattle.answers.specs.Refused.{StopsAt, refusal_of};
 
 use crate::blif_synthesis::{synth_blif, synth_twin};
 use crate::loose_synthesis::synth_pla;

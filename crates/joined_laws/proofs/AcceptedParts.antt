@@ -22,7 +22,8 @@ use Rattle.synth_ways.specs.declared.way.Way.TheVariants.{Parity, Duplex, Berger
 use Rattle.text_sections.specs.Denoted.{netlist_in}
 use Rattle.text_sections.specs.Parts.{parts_of, planned_of, sections_of, with_line, sections_behind}
 use Rattle.joint_answers.specs.JointParts.{parts_in}
-use Rattle.answers.specs.Answers.{IsAnswer, IsBlifSynthesis, IsSynthesis}
+use Rattle.answers.specs.Commands.{IsAnswer}
+use Rattle.answers.specs.Answers.{IsBlifSynthesis, IsSynthesis}
 use Rattle.joined_laws.specs.JoinedAnswers.{network_source, part_of, twin_source}
 use Rattle.joined_laws.specs.AcceptedParts.{AcceptedPartsAreJoined, IsAcceptedFor, answered_part, answered_source}
 

@@ -20,7 +20,8 @@ use Rattle.text_sections.specs.Parts.{parts_refusal, planned_of, sections_behind
 use Rattle.text_sections.specs.Refused.{byte_refusal, first_of}
 use Rattle.text_sections.proofs.PartLemmas.{refused_parts}
 use Rattle.joint_answers.specs.JointParts.{join_lines_refusal, join_refusal, joint_refusal, parts_in}
-use Rattle.answers.specs.Answers.{IsAnswer, IsBlifSynthesis, IsSynthesis}
+use Rattle.answers.specs.Commands.{IsAnswer}
+use Rattle.answers.specs.Answers.{IsBlifSynthesis, IsSynthesis}
 use Rattle.joined_laws.specs.JoinedAnswers.{AnswersAreJoined, IsMadeFor, OneJoint, network_source, synthesis_source, twin_source}
 use Rattle.joined_laws.proofs.AnswersInARow.{AreWritten, IsWritten, allowed_parts, bytes_in_a_row, parts_in_a_row, planned_in, some_sections}
 

@@ -10,7 +10,7 @@ use Rattle.module_join.specs.JoinLaws.{planned}
 use Rattle.module_join.specs.JointNet.{PlannedOf}
 use Rattle.text_sections.specs.Denoted.{second_netlist_in, second_plan_in, source_in}
 use Rattle.joint_answers.specs.JointParts.{parts_in}
-use Rattle.answers.specs.Answers.{IsAnswer}
+use Rattle.answers.specs.Commands.{IsAnswer}
 use Rattle.joined_laws.specs.JoinedAnswers.{part_of, synthesis_source}
 
 -- the source for which a command answers of a netlist: that of an audit, a wide or an exact one too, and that of a synthesis

@@ -13,8 +13,7 @@ use Rattle.module_join.specs.JoinLaws.{planned}
 use Rattle.module_join.specs.JointNet.{PlannedOf}
 use Rattle.text_sections.specs.Denoted.{netlist_in, plan_in, source_in}
 use Rattle.joint_answers.specs.JointParts.{joint_refusal, parts_in}
-use Rattle.answers.specs.Answers.{IsAnswer}
-use Rattle.answers.specs.Refused.{refusal_of}
+use Rattle.answers.specs.Commands.{IsAnswer, refusal_of}
 
 -- a text has at most one joint
 abbrev pub OneJoint : Type 0

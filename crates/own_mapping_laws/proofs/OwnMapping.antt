@@ -35,8 +35,7 @@ use Rattle.mapping_answers.specs.MappedReply.{IsMappingOf, IsYes}
 use Rattle.mapping_answers.specs.MappedSections.{mapped_in, mapped_net, mapped_refusal}
 use Rattle.mapping_answers.specs.MappedText.{yes_text}
 use Rattle.mapping_answers.proofs.MappedLemmas.{allowed_behind, allowed_lines, is_mapping}
-use Rattle.answers.specs.Answers.{IsAnswer, IsNo}
-use Rattle.answers.specs.Refused.{PassesLimit}
+use Rattle.answers.specs.Commands.{IsAnswer, IsNo, PassesLimit}
 use Rattle.mapped_laws.specs.MappedReplies.{HasOneReply}
 use Rattle.mapped_laws.proofs.BuiltNetlists.{section_is_built}
 use Rattle.mapped_laws.proofs.OneReply.{mapped_replies_are_determined}

@@ -4,8 +4,8 @@ use Rattle.fault_secure.specs.declared.code.Code.{Code}
 use Rattle.synth_ways.specs.declared.way.Way.{Way}
 use Rattle.commands.specs.declared.command.Command.TheVariants.{AuditMapped}
 use Rattle.mapping_answers.specs.MappedText.{yes_text}
-use Rattle.answers.specs.Answers.{IsAnswer, IsLooseSynthesis, IsNo, IsSynthesis, IsMachineSynthesis}
-use Rattle.answers.specs.Refused.{PassesLimit, refusal_of}
+use Rattle.answers.specs.Commands.{IsAnswer, IsNo, PassesLimit, refusal_of}
+use Rattle.answers.specs.Answers.{IsLooseSynthesis, IsSynthesis, IsMachineSynthesis}
 
 -- of the answer twice in a row `audit mapped` refuses nothing, it answers `yes`, and never `no`, and no limit of its stops it
 pub record IsItsOwnMapping (answer : List ℕ) : Type 0 where

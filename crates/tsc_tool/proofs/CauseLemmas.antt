@@ -6,7 +6,7 @@ use Rattle.refusals.specs.declared.ending.Ending.{Ending}
 use Rattle.refusals.specs.declared.limit.OwnLimit.{OwnLimit}
 use Rattle.refusals.specs.declared.refusal.Refusal.{Refusal}
 use Rattle.refusals.specs.declared.refusal.Refusal.TheVariants.{Memory, Text, Beyond}
-use Rattle.answers.specs.Refused.{PassesLimit, StopsAt, own_limit, refusal_of}
+use Rattle.answers.specs.Commands.{own_limit, PassesLimit, refusal_of, StopsAt}
 use Rattle.netlist_answers.specs.Devices.{IsRead, SinkCall, SourceCall}
 use Rattle.text_sections.specs.Refused.{StopsBeyond}
 use Rattle.tsc_tool.specs.Cause.{HasNoAnswer, IsFulfilled}

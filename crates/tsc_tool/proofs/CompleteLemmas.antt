@@ -15,7 +15,7 @@ use Rattle.commands.specs.declared.request.Request.TheVariants.{Read, Make, Help
 use Rattle.refusals.specs.declared.status.Status.{Status}
 use Rattle.refusals.specs.declared.status.Status.TheVariants.{Memory}
 use Rattle.commands.specs.Meaning.{meaning}
-use Rattle.answers.specs.Refused.{PassesLimit, refusal_of}
+use Rattle.answers.specs.Commands.{PassesLimit, refusal_of}
 use Rattle.netlist_answers.specs.Devices.{Devices, IsRead, SinkCall, SourceCall}
 use Rattle.tsc_tool.specs.Cause.{HasValid, IsBeyondLimit, IsComplete, IsRefusedText, IsTooLong, Stops, StopsHelp, StopsMake, StopsRequest, TellsValid, Tells}
 

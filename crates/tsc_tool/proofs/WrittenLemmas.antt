@@ -10,10 +10,9 @@ use Rattle.refusals.specs.declared.ending.Ending.TheVariants.{Finished}
 use Rattle.refusals.specs.declared.refusal.Refusal.{Refusal}
 use Rattle.refusals.specs.declared.refusal.Refusal.TheVariants.{WriteFault}
 use Rattle.commands.specs.declared.sim_words.SimFault.{SimFault}
-use Rattle.answers.specs.Answers.{IsReply}
+use Rattle.answers.specs.Commands.{IsReply, refusal_of, StopsAt}
 use Rattle.tsc_tool.specs.Cause.{HasNoAnswer, IsAnswered, IsPerformed, Stops}
 use Rattle.netlist_answers.specs.Devices.{Gains, GainsNothing, GainsPrefix, IsRead, SinkCall, SourceCall, source_call}
-use Rattle.answers.specs.Refused.{StopsAt, refusal_of}
 use Rattle.netlist_answers.specs.SimEnds.{TextEnds}
 use Rattle.tsc_tool.specs.Written.{HasAnswer, WritesAnswer}
 use Rattle.tsc_tool.proofs.CauseLemmas.{no-answer}

@@ -19,8 +19,7 @@ use Rattle.commands.specs.Meaning.{meaning}
 use Rattle.refusals.specs.Notes.{IsOfText, note_of}
 use Rattle.commands.specs.SimWords.{has_fault_form}
 use Rattle.refusals.specs.StatusOf.{status_of}
-use Rattle.answers.specs.Refused.{PassesLimit, own_limit, refusal_of}
-use Rattle.answers.specs.Answers.{IsReply}
+use Rattle.answers.specs.Commands.{IsReply, own_limit, PassesLimit, refusal_of}
 use Rattle.netlist_answers.specs.Devices.{SourceCall, SinkCall, Devices, IsRead, IsUntouched, Gains, GainsNothing, GainsPrefix, IsTold}
 
 -- the command read a text that nothing refuses, and this is its answer, with which it ends so

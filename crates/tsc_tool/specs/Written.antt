@@ -4,8 +4,7 @@ use Rattle.commands.specs.declared.command.Command.{Command}
 use Rattle.refusals.specs.declared.ending.Ending.{Ending}
 use Rattle.refusals.specs.declared.refusal.Refusal.{Refusal}
 use Rattle.refusals.specs.declared.refusal.Refusal.TheVariants.{WriteFault as CannotWrite}
-use Rattle.answers.specs.Refused.{StopsAt, refusal_of}
-use Rattle.answers.specs.Answers.{IsReply}
+use Rattle.answers.specs.Commands.{IsReply, refusal_of, StopsAt}
 use Rattle.netlist_answers.specs.Devices.{SinkCall, Gains, GainsNothing, GainsPrefix}
 
 -- a text has an answer, with which the command ends so; nothing refuses the text

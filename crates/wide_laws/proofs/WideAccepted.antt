@@ -28,8 +28,7 @@ use Rattle.commands.specs.declared.source_format.SourceFormat.TheVariants.{Blif}
 use Rattle.text_sections.specs.Denoted.{behind_source, first_net, net_from, netlist_in, plan_from, plan_in, second_netlist_in, second_plan_in}
 use Rattle.text_sections.specs.Refused.{byte_refusal, lines_refusal, text_refusal}
 use Rattle.text_sections.proofs.SectionLemmas.{none_first, none_later}
-use Rattle.answers.specs.Answers.{IsAnswer, IsNo}
-use Rattle.answers.specs.Refused.{refusal_of}
+use Rattle.answers.specs.Commands.{IsAnswer, IsNo, refusal_of}
 use Rattle.answer_laws.proofs.AcceptedBehind.{bytes_allowed, network_fits}
 use Rattle.answer_laws.proofs.BehindSource.{IsKept, allowed_in_a_row, lines_in_a_row, lines_kept, netlist_allowed, network_kept, second_net, second_plan}
 use Rattle.wide_laws.specs.WideLaws.{IsWidelyAccepted, WideAnswersAreAccepted}

@@ -8,8 +8,8 @@ use Rattle.commands.specs.declared.source_format.SourceFormat.TheVariants.{Blif}
 use Rattle.text_sections.specs.Denoted.{netlist_in, plan_in, second_netlist_in}
 use Rattle.text_sections.specs.Refused.{text_refusal}
 use Rattle.wide_diagrams.specs.Wide.{NeedAtMost}
-use Rattle.answers.specs.Answers.{IsAnswer, IsNo, IsSynthesis}
-use Rattle.answers.specs.Refused.{refusal_of}
+use Rattle.answers.specs.Commands.{IsAnswer, IsNo, refusal_of}
+use Rattle.answers.specs.Answers.{IsSynthesis}
 use Rattle.answer_laws.specs.AnswerLaws.{IsEndedSource}
 
 -- a wide audit of the two texts in a row refuses nothing, answers `yes` where the functions that they state have at most as many different
