@@ -1,13 +1,13 @@
 use Rattle.answers.proofs.answering.answer.Goals as goal
 
 pub returns-in_ok-synth_twin-in-SynthWatched-clause-answers : goal.returns-in_ok-synth_twin-in-SynthWatched-clause-answers
-returns-in_ok-synth_twin-in-SynthWatched-clause-answers c = rw (c.in-SynthWatched.is, c.finished.ensures.reply) c.in_ok-synth_twin-in-SynthWatched.ensures.answers
+returns-in_ok-synth_twin-in-SynthWatched-clause-answers c = rw (c.in-SynthWatched.is, c.finished-in-SynthWatched.ensures.reply) c.in_ok-synth_twin-in-SynthWatched.ensures.answers
 
 pub returns-in_ok-synth_kiss-in-SynthKiss-clause-answers : goal.returns-in_ok-synth_kiss-in-SynthKiss-clause-answers
-returns-in_ok-synth_kiss-in-SynthKiss-clause-answers c = rw (c.in-SynthKiss.is, c.finished.ensures.reply) c.in_ok-synth_kiss-in-SynthKiss.ensures.answers
+returns-in_ok-synth_kiss-in-SynthKiss-clause-answers c = rw (c.in-SynthKiss.is, c.finished-in-SynthKiss.ensures.reply) c.in_ok-synth_kiss-in-SynthKiss.ensures.answers
 
 pub returns-in_ok-synth_pla-in-SynthPla-clause-answers : goal.returns-in_ok-synth_pla-in-SynthPla-clause-answers
-returns-in_ok-synth_pla-in-SynthPla-clause-answers c = rw (c.in-SynthPla.is, c.finished.ensures.reply) c.in_ok-synth_pla-in-SynthPla.ensures.answers
+returns-in_ok-synth_pla-in-SynthPla-clause-answers c = rw (c.in-SynthPla.is, c.finished-in-SynthPla.ensures.reply) c.in_ok-synth_pla-in-SynthPla.ensures.answers
 
 pub returns-in_ok-test_vectors-in-Vectors-clause-answers : goal.returns-in_ok-test_vectors-in-Vectors-clause-answers
 returns-in_ok-test_vectors-in-Vectors-clause-answers c = rw (c.in-Vectors.is) c.in_ok-test_vectors-in-Vectors.ensures.answers
