@@ -10,7 +10,7 @@ use tsc_net::Netlist;
 use tsc_text::{End, Lines};
 
 /// The most nets that a bench takes.
-const MOST_NETS: usize = 1049664;
+const MOST_NETS: usize = 1082368;
 
 /// The netlist that a text begins with, if that has no latches and not more nets than a bench takes.
 pub fn netlist_of(alloc: Global, text: &Bytes) -> Option<Netlist>

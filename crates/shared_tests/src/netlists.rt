@@ -1,5 +1,5 @@
 //! Small netlists with their plans, for the tests of what reads a netlist.
-ghost use Rattle.std.specs.Prelude.{◌≤◌, length, IfSome};
+ghost use Rattle.std.specs.Prelude.{◌≡◌, ◌≤◌, length, IfSome};
 ghost use Rattle.fault_secure.specs.CodePlan.{IsPlanOf};
 
 use blif_read::{BlifText, Kind, read_blif};
@@ -41,7 +41,7 @@ pub fn network_of(alloc: Global, text: &[u8]) -> Option<Netlist>
 /// What a text denotes as one section of this kind.
 fn section_of(alloc: Global, text: &[u8], kind: Kind) -> Option<BlifText>
     requires short { length text.now ≤ 67108864 }
-    ensures plan { IfSome result (λ read. IfSome read.plan (IsPlanOf read.net.circuit)) }
+    ensures plan { kind ≡ Kind.Netlist → IfSome result (λ read. IfSome read.plan (IsPlanOf read.net.circuit)) }
 {
     let bytes = Bytes::from_slice(alloc, text).ok()?;
     let lines = Lines::of(alloc, &bytes).ok()?;
@@ -50,7 +50,7 @@ fn section_of(alloc: Global, text: &[u8], kind: Kind) -> Option<BlifText>
 
 /// What all lines denote as one section of this kind.
 fn section_in(alloc: Global, lines: &Lines, kind: Kind) -> Option<BlifText>
-    ensures plan { IfSome result (λ read. IfSome read.plan (IsPlanOf read.net.circuit)) }
+    ensures plan { kind ≡ Kind.Netlist → IfSome result (λ read. IfSome read.plan (IsPlanOf read.net.circuit)) }
 {
     let section = Section {
         first: 0,

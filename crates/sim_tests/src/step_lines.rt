@@ -81,7 +81,7 @@ fn print_run(
     requires steps { held.first ≤ held.last }
 {
     let net = &read.net;
-    if net.latches() > 64 || net.nets() > 1049664 {
+    if net.latches() > 64 || net.nets() > 1082368 {
         return Err(RunError::NotListed);
     }
     let Ok(steps) = StepLines::of(lines, 0, net.inputs()) else {
