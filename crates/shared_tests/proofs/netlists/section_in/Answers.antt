@@ -1,10 +1,8 @@
-use Rattle.std.proofs.Common.{IfSome, subst}
-use Rattle.fault_secure.specs.CodePlan.{IsPlanOf}
-use Rattle.blif_read.specs.Denotes.{plan_circuit}
-use Rattle.blif_read.specs.declared.kinds.Kind.{Kind}
+use Rattle.tsc_text.specs.Section.{section_lines}
+use Rattle.shared_tests.proofs.Plans.{plan_listed}
 use Rattle.shared_tests.proofs.netlists.section_in.Goals as goal
 
 pub returns-in-Ok : goal.returns-in-Ok
 returns-in-Ok c = record {
-  plan = λ is. subst (λ (kind : Kind). IfSome c.in-Ok.read.plan (IsPlanOf (plan_circuit kind _ c.in-Ok.read.net))) is c.in-Ok.ensures.of_net;
+  plan = λ is. plan_listed c.args.kind (section_lines c.args.lines.now c.read_blif.new.section) c.in-Ok.read.net c.in-Ok.read.plan is c.in-Ok.ensures.of_net;
 }
