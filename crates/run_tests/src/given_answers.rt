@@ -182,19 +182,19 @@ static REGISTERS: [Done; 5] = [
         b"0 10 01 1010 01 quiet\n1 01 00 0001 00 alarm\n2 01 11 0000 00 alarm\n3 11 00 0000 01 quiet\n",
     ),
     (
-        b"sim stem t0_0 0 1",
+        b"sim stem t0_0 0 1-1",
         WATCHED_HELD,
         b"1\n1\n0\n1\n",
         b"0 01 10 11 10 quiet\n1 10 10 01 00 alarm\n2 01 00 11 00 alarm\n3 10 01 00 01 quiet\n",
     ),
     (
-        b"sim pin p 0 0 0",
+        b"sim pin p 0 0 0-0",
         WATCHED_HELD,
         b"1\n1\n0\n1\n",
         b"0 01 10 11 10 quiet\n1 01 01 10 00 alarm\n2 11 10 11 11 alarm\n3 10 01 00 01 quiet\n",
     ),
     (
-        b"sim pin p 0 1 1",
+        b"sim pin p 0 1 1-1",
         LISTLESS,
         b"0\n0\n1\n",
         b"0 0 1 0 01 quiet\n1 0 1 0 01 quiet\n2 1 0 1 10 quiet\n",

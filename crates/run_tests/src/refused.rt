@@ -491,7 +491,7 @@ pub type Made = (
 
 /// Each limit, and the number before it. A netlist may have two outputs more than a source; a row more of the source of equal rows
 /// raises its bound on covers above 1,048,576: from 1,048,556 under parity, and from 1,048,548 under the other codes.
-static LIMITS: [Made; 26] = [
+static LIMITS: [Made; 28] = [
     (
         b"synth kiss berger",
         b".i 64\n.o 64\n",
@@ -598,12 +598,28 @@ static LIMITS: [Made; 26] = [
         b"tsc: driven twice: b\n",
     ),
     (
-        b"faults",
+        b"vectors",
         b"",
         b".latch a b 0\n",
         65,
         4,
         b"tsc: line 65: limit: 64 latches\n",
+    ),
+    (
+        b"faults",
+        b"",
+        b".latch a b 0\n",
+        32_768,
+        3,
+        b"tsc: driven twice: b\n",
+    ),
+    (
+        b"faults",
+        b"",
+        b".latch a b 0\n",
+        32_769,
+        4,
+        b"tsc: line 32769: limit: 32768 latches\n",
     ),
     (
         b"synth blif parity",
