@@ -1,0 +1,6 @@
+pub mod Batch
+pub mod Bench
+pub mod BenchView
+pub mod Chains
+pub mod Settling
+pub mod Runs
