@@ -5,7 +5,8 @@ use Rattle.fault_secure.specs.StuckAt.{StuckAt, NoFault, is_listed, fault_cell}
 use Rattle.tsc_net.specs.Fault.{stuck_at, stuck_at_or_none}
 use Rattle.tsc_net.specs.declared.fault.Fault.{Fault}
 
--- the fault of a lane in a batch: lane 0 is without a fault, each lane from 1 on has the next listed one, and those past the list have none
+-- the fault of a lane in a batch: lane 0 is without a fault, lane p + 1 has the one at place p of the list, and the lanes past the list
+-- have none
 abbrev pub batch_fault : List Fault → ℕ → StuckAt
 batch_fault faults lane = slice_index_or (NoFault ∷ map stuck_at faults) lane NoFault
 

@@ -2,6 +2,7 @@
 ghost use Rattle.std.specs.Prelude.{◌≡◌, ℕ, ◌<◌, ◌≤◌, length, All, IfOk};
 ghost use Rattle.fault_secure.specs.Circuit.{nets, bit};
 ghost use Rattle.fault_secure.specs.StuckAt.{NoFault, fault_cell};
+ghost use Rattle.fault_secure.specs.Settle.{Acyclic};
 ghost use Rattle.tsc_net.specs.Fault.{stuck_at};
 ghost use Rattle.tsc_net.specs.Limits.{most_nets};
 ghost use Rattle.lane_sim.specs.Lanes.{HasLanes};
@@ -88,10 +89,11 @@ impl<'a> FaultLanes<'a> {
     }
 
     /// Settles with these bits of the inputs in each lane, from the lane's state bits and under its fault. A fault at the pin of a
-    /// latch changes nothing here: it acts on the next state.
+    /// latch changes nothing here: it acts on the next state. There is no ring, so what settles is the one valuation that does.
     pub fn settle(&mut self, input: &Bits)
         requires input { length input.now ≡ self.old.circuit.inputs }
         ensures settles { SettlesEach self.old input.now self.new }
+        ensures acyclic { Acyclic self.old.circuit }
         ensures states { self.new.states ≡ self.old.states }
         ensures same { IsSameBatch self.old self.new }
     {
@@ -109,6 +111,7 @@ impl<'a> FaultLanes<'a> {
     pub fn step(&mut self, input: &Bits)
         requires input { length input.now ≡ self.old.circuit.inputs }
         ensures step { IsStep self.old input.now self.new }
+        ensures acyclic { Acyclic self.old.circuit }
     {
         self.settle(input);
         take_states(self.net, &self.chains, &self.words, &mut self.states);

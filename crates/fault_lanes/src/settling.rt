@@ -2,7 +2,7 @@
 ghost use Rattle.std.specs.Prelude.{◌≡◌, ◌≢◌, ℕ, ◌+◌, ◌*◌, ◌<◌, ◌≤◌, Bool, List, length, slice_index, All};
 ghost use Rattle.fault_secure.specs.Circuit.{nets, node_net, latch_net, bit};
 ghost use Rattle.fault_secure.specs.StuckAt.{on_stem};
-ghost use Rattle.fault_secure.specs.Settle.{Settles};
+ghost use Rattle.fault_secure.specs.Settle.{Acyclic, Settles};
 ghost use Rattle.tsc_net.specs.PlanView.{net_numbers};
 ghost use Rattle.lane_rows.specs.Alive.{source_count};
 ghost use Rattle.lane_sim.specs.Lanes.{HasLanes, lane_bit};
@@ -35,6 +35,7 @@ pub(crate) fn settle_nets(
     requires words { length words.old ≡ nets net.now.circuit * 16 }
     ensures settles { (lane : ℕ) → lane < 1024
         → Settles net.now.circuit (lane_fault chains.now.faults.items lane) (bit input.now) (bit (bits_in states.now (length net.now.circuit.latches) lane)) (bits_in words.new (nets net.now.circuit) lane) }
+    ensures acyclic { Acyclic net.now.circuit }
 {
     // That there is no ring is known from here on.
     let _order = net.order();

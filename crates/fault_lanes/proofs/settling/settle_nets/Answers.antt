@@ -16,4 +16,5 @@ returns c = record {
       (λ l below. subst (λ (k : ℕ). source_bit words (k + l) lane ≡ on_stem f (k + l) (source_bit c.args.states.now l lane)) many (c.settle_latches.ensures.latches l lane (omega (arith, c.latches.ensures.count)) inside))
       (λ net source. c.settle_nodes.ensures.sources net lane source inside)
       (λ v sources settle. c.settle_nodes.ensures.nodes lane v inside sources settle);
+  acyclic = c.order-order.ensures.acyclic;
 }

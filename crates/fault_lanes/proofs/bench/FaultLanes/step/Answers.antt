@@ -14,4 +14,5 @@ returns c =
           (step_is c.args.self.now c.settle.new.self (after taken) c.args.input.now c.settle.ensures.settles c.settle.ensures.same
           (ap (λ (s : LanesState). s.circuit) c.self.view_is) (ap (λ (s : LanesState). s.faults) c.self.view_is) (ap (λ (s : LanesState). s.nets) c.self.view_is)
           c.deref.result.now c.deref.ensures.value c.take_states.ensures.next);
+      acyclic = c.settle.ensures.acyclic;
     }
