@@ -1,0 +1,11 @@
+//! The exact question of a network and its netlist as text: the code that writes the clauses.
+//! Its main call is `question_text`, which writes the question in DIMACS; `question` answers its clauses alone.
+//! It stands on `exact_question` (what the question is), `tsc_net` (netlists and plans), `refutations` (literals) and `tsc_text` (numbers as words).
+//! Its main promise: the text is the one that is stated of the source, the netlist and its plan, byte for byte.
+//! Definitions, in reading order: specs/Text (the text), and of the code alone Gates, Covers.
+#![tactic(auto)]
+
+mod clauses;
+mod covers;
+mod gates;
+mod rows;
