@@ -1,2 +1,4 @@
 pub mod Gates
 pub mod Covers
+pub mod Nodes
+pub mod Failing

@@ -5,7 +5,10 @@
 //! Definitions, in reading order: specs/Text (the text), and of the code alone Gates, Covers.
 #![tactic(auto)]
 
+mod cells;
 mod clauses;
 mod covers;
+mod failing;
 mod gates;
+mod nodes;
 mod rows;
