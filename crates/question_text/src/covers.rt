@@ -42,7 +42,7 @@ fn at_nets(alloc: Global, numbers: &[u32], literals: &[Literal]) -> Result<Liter
 }
 
 /// The number of the next row's variable.
-fn next_row(at: u32, row: &[Literal]) -> u32
+pub(crate) fn next_row(at: u32, row: &[Literal]) -> u32
     requires room { next_row at row.now < 2 ^ 32 }
     ensures next { result ≡ next_row at row.now }
 {

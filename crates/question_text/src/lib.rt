@@ -12,3 +12,4 @@ mod failing;
 mod gates;
 mod nodes;
 mod rows;
+mod tables;

@@ -1,0 +1,34 @@
+-- Where the numbers of variables end.
+use Rattle.std.proofs.Common.{◌≡◌, ℕ, zero, suc, ◌+◌, ◌≤◌, Bool, true, false, cond, List, [], ◌∷◌, ◌++◌, ◌<◌, nat_eq, if◌then◌else◌, length, drop, slice_index_or, refl, add-one, arith}
+use Rattle.std.proofs.lemmas.List.{at_drop_more}
+use Rattle.fault_secure.specs.Circuit.{NodeOf, no_node}
+use Rattle.question_text.specs.Nodes.{wide_of, first_numbers, end_from}
+use Rattle.question_text.specs.Failing.{cell_end, cells_end}
+
+pub first_more : (n : ℕ) → first_numbers (n + 1) ≡ first_numbers n ++ n ∷ []
+first_more n = rw add-one refl
+
+pub end_least : (at : ℕ) (nodes : List NodeOf) → at ≤ end_from at nodes
+end_least at [] = omega arith
+end_least at (n ∷ nodes) = omega (arith, end_least (at + 1 + wide_of n) nodes)
+
+pub cell_least : (j at rows : ℕ) → at + 4 + rows ≤ cell_end j at rows
+cell_least j at rows = by (nat_eq j 0)
+  where
+    by : (b : Bool) → at + 4 + rows ≤ cond b (at + 4 + rows) (at + 5 + rows)
+    by true = omega arith
+    by false = omega arith
+
+pub cells_least : (j at : ℕ) (nodes : List NodeOf) → at ≤ cells_end j at nodes
+cells_least j at [] = omega arith
+cells_least j at (n ∷ nodes) = omega (arith, cells_least (j + 1) (cell_end j at (wide_of n)) nodes, cell_least j at (wide_of n))
+
+pub end_room : (at place : ℕ) (nodes : List NodeOf) → place < length nodes → at + 1 + wide_of (slice_index_or nodes place no_node) ≤ end_from at (drop place nodes)
+end_room at place nodes inside =
+    let e : end_from at (drop place nodes) ≡ end_from (at + 1 + wide_of (slice_index_or nodes place no_node)) (drop (place + 1) nodes) = at_drop_more (end_from at) nodes place no_node inside in
+    omega (arith, e, end_least (at + 1 + wide_of (slice_index_or nodes place no_node)) (drop (place + 1) nodes))
+
+pub cells_room : (j at place : ℕ) (nodes : List NodeOf) → place < length nodes → cell_end j at (wide_of (slice_index_or nodes place no_node)) ≤ cells_end j at (drop place nodes)
+cells_room j at place nodes inside =
+    let e : cells_end j at (drop place nodes) ≡ cells_end (j + 1) (cell_end j at (wide_of (slice_index_or nodes place no_node))) (drop (place + 1) nodes) = at_drop_more (cells_end j at) nodes place no_node inside in
+    omega (arith, e, cells_least (j + 1) (cell_end j at (wide_of (slice_index_or nodes place no_node))) (drop (place + 1) nodes))
