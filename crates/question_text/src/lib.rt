@@ -11,5 +11,8 @@ mod covers;
 mod failing;
 mod gates;
 mod nodes;
+mod numbers;
+mod question;
+mod reasons;
 mod rows;
 mod tables;
