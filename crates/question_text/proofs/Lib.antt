@@ -1,3 +1,5 @@
 pub mod Once
 pub mod Asked
 pub mod Ends
+pub mod Same
+pub mod Places

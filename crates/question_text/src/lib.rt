@@ -10,9 +10,12 @@ mod clauses;
 mod covers;
 mod failing;
 mod gates;
+mod laws;
 mod nodes;
 mod numbers;
 mod question;
 mod reasons;
 mod rows;
 mod tables;
+
+pub use laws::scratch;

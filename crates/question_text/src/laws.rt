@@ -1,0 +1,10 @@
+//! The law of the clauses over numbers.
+ghost use Rattle.std.specs.Prelude.{◌≡◌};
+
+/// scratch
+#[tactic(auto, using(crate::proofs::Same::next_swap, crate::proofs::Places::inputs_long))]
+pub fn scratch(n: usize) -> usize
+    ensures same { result ≡ n }
+{
+    n
+}
