@@ -6,3 +6,4 @@ pub mod Places
 pub mod Standing
 pub mod Numbered
 pub mod Spreads
+pub mod Law

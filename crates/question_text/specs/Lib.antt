@@ -4,3 +4,4 @@ pub mod Nodes
 pub mod Failing
 pub mod Reasons
 pub mod Whole
+pub mod Groups

@@ -55,12 +55,12 @@ word_gates n C N groups =
     outputs_gates n.source n.right N.outputs 0 n.outputs C.outputs
     ++ groups_gates n.right N.outputs n.groups groups
 
--- those of the rails, and of a failing cell that is unheard
-abbrev pub alarm_gates : Numbers → Circuit → CodePlan → List (List Literal)
-alarm_gates n N P =
-    rails_gates n.right n.rails P.rail1 P.rail2
-    ++ rails_gates n.failing (n.rails + 1) P.rail1 P.rail2
-    ++ unheard_gates (n.rails + 1) (n.rails + 2) N.inputs n.cells (take P.outputs N.outputs)
+-- those of the rails, and of a failing cell that is unheard: `shown` are the outputs
+abbrev pub alarm_gates : Numbers → ℕ → ℕ → ℕ → List ℕ → List (List Literal)
+alarm_gates n inputs rail1 rail2 shown =
+    rails_gates n.right n.rails rail1 rail2
+    ++ rails_gates n.failing (n.rails + 1) rail1 rail2
+    ++ unheard_gates (n.rails + 1) (n.rails + 2) inputs n.cells shown
 
 -- the last clause: that something is wrong
 abbrev pub wrong_of : Numbers → Circuit → Circuit → List Group → List Literal
@@ -68,4 +68,5 @@ wrong_of n C N groups =
     ones_from n.outputs C.outputs ++ groups_even n.right N.outputs n.groups groups ++ is_zero n.rails ∷ is_one (n.rails + 2) ∷ []
 
 abbrev pub all_gates : Numbers → Circuit → Circuit → CodePlan → List Group → List (List Literal)
-all_gates n C N P groups = copies_gates n C N ++ word_gates n C N groups ++ alarm_gates n N P ++ wrong_of n C N groups ∷ []
+all_gates n C N P groups =
+    copies_gates n C N ++ word_gates n C N groups ++ alarm_gates n N.inputs P.rail1 P.rail2 (take P.outputs N.outputs) ++ wrong_of n C N groups ∷ []

@@ -2,7 +2,7 @@
 ghost use Rattle.std.specs.Prelude.{◌≡◌};
 
 /// scratch
-#[tactic(auto, using(crate::proofs::Same::next_swap, crate::proofs::Places::inputs_long, crate::proofs::Spreads::first_long))]
+#[tactic(auto, using(crate::proofs::Same::next_swap, crate::proofs::Places::inputs_long, crate::proofs::Law::all_are))]
 pub fn scratch(n: usize) -> usize
     ensures same { result ≡ n }
 {

@@ -4,8 +4,8 @@ ghost use Rattle.tsc_net.specs.PlanView.{net_numbers};
 ghost use Rattle.question_text.specs.Gates.{after_clauses, is_one, is_zero, kept};
 ghost use Rattle.question_text.specs.Nodes.{HasRoom};
 ghost use Rattle.question_text.specs.Failing.{CellsHaveRoom};
-ghost use Rattle.question_text.specs.Reasons.{groups_end, groups_even, ones_from, rails_gates, unheard_gates};
-ghost use Rattle.question_text.specs.Whole.{copies_gates, word_gates};
+ghost use Rattle.question_text.specs.Reasons.{groups_end, groups_even, ones_from};
+ghost use Rattle.question_text.specs.Whole.{alarm_gates, copies_gates, word_gates};
 
 use crate::clauses::{Clauses, Literals};
 use crate::failing::push_failing;
@@ -72,7 +72,7 @@ fn push_alarm(
     shown: &[NetId],
 ) -> Result<(), AllocError>
     requires room { numbers.now.rails + 3 < 2 ^ 32 }
-    ensures clauses { OnOk result (out.new ≡ after_clauses out.old (rails_gates numbers.now.right numbers.now.rails rail1.number rail2.number ++ rails_gates numbers.now.failing (numbers.now.rails + 1) rail1.number rail2.number ++ unheard_gates (numbers.now.rails + 1) (numbers.now.rails + 2) inputs numbers.now.cells (net_numbers shown.now))) }
+    ensures clauses { OnOk result (out.new ≡ after_clauses out.old (alarm_gates numbers.now inputs rail1.number rail2.number (net_numbers shown.now))) }
 {
     let rails = numbers.rails;
     push_rails(out, numbers.right.as_slice(), rails, rail1, rail2)?;
