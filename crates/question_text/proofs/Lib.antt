@@ -7,3 +7,4 @@ pub mod Standing
 pub mod Numbered
 pub mod Spreads
 pub mod Law
+pub mod Rooms

@@ -5,3 +5,5 @@ pub mod Failing
 pub mod Reasons
 pub mod Whole
 pub mod Groups
+pub mod Text
+pub mod Lines

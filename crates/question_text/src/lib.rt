@@ -17,5 +17,6 @@ mod question;
 mod reasons;
 mod rows;
 mod tables;
+mod text;
 
 pub use laws::scratch;

@@ -5,7 +5,7 @@ ghost use Rattle.question_text.specs.Gates.{after_clauses, is_one, is_zero, kept
 ghost use Rattle.question_text.specs.Nodes.{HasRoom};
 ghost use Rattle.question_text.specs.Failing.{CellsHaveRoom};
 ghost use Rattle.question_text.specs.Reasons.{groups_end, groups_even, ones_from};
-ghost use Rattle.question_text.specs.Whole.{alarm_gates, copies_gates, word_gates};
+ghost use Rattle.question_text.specs.Whole.{alarm_gates, clauses_over, copies_gates, numbers_of, rails_first, word_gates};
 
 use crate::clauses::{Clauses, Literals};
 use crate::failing::push_failing;
@@ -14,6 +14,7 @@ use crate::nodes::push_nodes;
 use crate::numbers::Numbers;
 use crate::reasons::{push_groups, push_ones, push_outputs, push_rails, push_unheard};
 use std::alloc::AllocError;
+use tsc_io::Items;
 use tsc_net::{Group, NetId, Netlist};
 
 /// Adds the clauses of the three copies.
@@ -95,4 +96,28 @@ fn push_last(out: &mut Clauses, wrong: &mut Literals, rails: u32) -> Result<(), 
     wrong.push(zero(rails))?;
     wrong.push(one(rails + 2))?;
     out.push(wrong.as_slice())
+}
+
+/// Adds all clauses, where these are the rails and the outputs.
+fn push_clauses(
+    out: &mut Clauses,
+    numbers: &Numbers,
+    source: &Netlist,
+    net: &Netlist,
+    groups: &[Group],
+    rails: (NetId, NetId),
+    shown: &[NetId],
+) -> Result<(), AllocError>
+    requires numbers { numbers.now ≡ numbers_of source.now.circuit net.now.circuit groups.now }
+    requires source_latches { length source.now.circuit.latches ≡ 0 }
+    requires latches { length net.now.circuit.latches ≡ 0 }
+    requires few { rails_first source.now.circuit net.now.circuit groups.now + 3 < 2 ^ 32 }
+    ensures clauses { OnOk result (out.new ≡ after_clauses out.old (clauses_over numbers.now source.now.circuit net.now.circuit groups.now rails.0.number rails.1.number (net_numbers shown.now))) }
+{
+    let mut wrong = Items::new(out.alloc());
+    push_copies(out, numbers, source, net)?;
+    push_word(out, &mut wrong, numbers, source, net, groups)?;
+    push_alarm(out, numbers, net.inputs(), rails.0, rails.1, shown)?;
+    push_last(out, &mut wrong, numbers.rails)?;
+    Ok(())
 }
