@@ -64,13 +64,13 @@ module _ (C N : Circuit) (P : CodePlan) (groups : List Group) (asked : IsAsked C
     c_is : c ≡ made
     c_is = cell_is 0 (failing_first C N) j N.nodes inside
 
-    of_choice : v (Choice j) ≡ c.choice
+    pub of_choice : v (Choice j) ≡ c.choice
     of_choice = num_choice C N P j inside
 
     of_gate : v (Gate j) ≡ c.gate
     of_gate = num_gate C N P j inside ∙ sym (ap (λ (a : Cell). a.gate) c_is)
 
-    of_wrong : v (Net Failing j) ≡ c.net
+    pub of_wrong : v (Net Failing j) ≡ c.net
     of_wrong = num_wrong C N P j inside ∙ sym (ap (λ (a : Cell). a.net) c_is)
 
     of_rows : c.rows ≡ c.choice + 3
@@ -99,10 +99,10 @@ module _ (C N : Circuit) (P : CodePlan) (groups : List Group) (asked : IsAsked C
 
   -- ---- the copies
 
-  source_at : (j : ℕ) → slice_index n.source (node_net C 0 + j) ≡ slice_index (numbers_from N.inputs C.nodes) j
+  pub source_at : (j : ℕ) → slice_index n.source (node_net C 0 + j) ≡ slice_index (numbers_from N.inputs C.nodes) j
   source_at j = ap (slice_index n.source) (let a = asked.source_latches in let e : node_net C 0 + j ≡ C.inputs + j = omega arith in e) ∙ behind_first C.inputs j (numbers_from N.inputs C.nodes)
 
-  right_at : (j : ℕ) → slice_index n.right (node_net N 0 + j) ≡ slice_index (numbers_from (right_first C N) N.nodes) j
+  pub right_at : (j : ℕ) → slice_index n.right (node_net N 0 + j) ≡ slice_index (numbers_from (right_first C N) N.nodes) j
   right_at j = ap (slice_index n.right) (let a = asked.latches in let e : node_net N 0 + j ≡ N.inputs + j = omega arith in e) ∙ behind_first N.inputs j (numbers_from (right_first C N) N.nodes)
 
   of_source : map (lits v) (spread (node_clauses Source C.inputs) C.nodes) ≡ nodes_gates n.source (node_net C 0) C.nodes

@@ -8,3 +8,5 @@ pub mod Numbered
 pub mod Spreads
 pub mod Law
 pub mod Rooms
+pub mod TextLines
+pub mod TextLaw

@@ -14,7 +14,7 @@ use Rattle.question_text.proofs.Places.{At, at_same, at_left, at_right, inputs_l
 use Rattle.question_text.proofs.Standing.{numbers_least, cells_choice_least, copy_long, failing_copy_long, at_net_of, at_row_of, at_choice, at_gate, at_wrong, at_failing_row, at_differs, at_chosen}
 
 -- the place of an input
-at_input : (n i : ℕ) → i < n → At (input_variables n) i (Input i)
+pub at_input : (n i : ℕ) → i < n → At (input_variables n) i (Input i)
 at_input zero i inside = absurd (omega arith)
 at_input (suc n) i inside = by (λ below. at_input n i below) (nat_lt i n) refl
   where

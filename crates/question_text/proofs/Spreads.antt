@@ -26,7 +26,7 @@ pub first_long : (n : ℕ) → length (first_numbers n) ≡ n
 first_long zero = refl
 first_long (suc n) = let e = first_long n in omega (arith, e, length-append (first_numbers n) (n ∷ []))
 
-first_at : (n i : ℕ) → i < n → slice_index (first_numbers n) i ≡ i
+pub first_at : (n i : ℕ) → i < n → slice_index (first_numbers n) i ≡ i
 first_at zero i inside = absurd (omega arith)
 first_at (suc n) i inside = by (λ below. first_at n i below) (nat_lt i n) refl
   where

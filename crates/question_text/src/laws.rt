@@ -2,7 +2,7 @@
 ghost use Rattle.std.specs.Prelude.{◌≡◌};
 
 /// scratch
-#[tactic(auto, using(crate::proofs::Same::next_swap, crate::proofs::Places::inputs_long, crate::proofs::Law::all_are))]
+#[tactic(auto, using(crate::proofs::Same::next_swap, crate::proofs::Places::inputs_long, crate::proofs::TextLaw::groups_kept))]
 pub fn scratch(n: usize) -> usize
     ensures same { result ≡ n }
 {

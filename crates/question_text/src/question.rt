@@ -1,6 +1,7 @@
 //! All clauses of the question.
-ghost use Rattle.std.specs.Prelude.{◌≡◌, ◌+◌, ◌<◌, ◌^◌, [], ◌∷◌, ◌++◌, length, OnOk};
+ghost use Rattle.std.specs.Prelude.{◌≡◌, ◌+◌, ◌<◌, ◌≤◌, ◌^◌, [], ◌∷◌, ◌++◌, length, take, IfOk, OnOk};
 ghost use Rattle.tsc_net.specs.PlanView.{net_numbers};
+ghost use Rattle.exact_question.specs.Rows.{written};
 ghost use Rattle.question_text.specs.Gates.{after_clauses, is_one, is_zero, kept};
 ghost use Rattle.question_text.specs.Nodes.{HasRoom};
 ghost use Rattle.question_text.specs.Failing.{CellsHaveRoom};
@@ -13,7 +14,7 @@ use crate::gates::{one, zero};
 use crate::nodes::push_nodes;
 use crate::numbers::Numbers;
 use crate::reasons::{push_groups, push_ones, push_outputs, push_rails, push_unheard};
-use std::alloc::AllocError;
+use std::alloc::{AllocError, Global};
 use tsc_io::Items;
 use tsc_net::{Group, NetId, Netlist};
 
@@ -120,4 +121,27 @@ fn push_clauses(
     push_alarm(out, numbers, net.inputs(), rails.0, rails.1, shown)?;
     push_last(out, &mut wrong, numbers.rails)?;
     Ok(())
+}
+
+/// All clauses, where these are the rails, and the plan has so many outputs.
+pub(crate) fn clauses_of(
+    alloc: Global,
+    numbers: &Numbers,
+    source: &Netlist,
+    net: &Netlist,
+    groups: &[Group],
+    rails: (NetId, NetId),
+    outputs: usize,
+) -> Result<Clauses, AllocError>
+    requires numbers { numbers.now ≡ numbers_of source.now.circuit net.now.circuit groups.now }
+    requires source_latches { length source.now.circuit.latches ≡ 0 }
+    requires latches { length net.now.circuit.latches ≡ 0 }
+    requires few { rails_first source.now.circuit net.now.circuit groups.now + 3 < 2 ^ 32 }
+    requires shown { outputs ≤ length net.now.circuit.outputs }
+    ensures clauses { IfOk result (λ clauses. clauses ≡ written (clauses_over numbers.now source.now.circuit net.now.circuit groups.now rails.0.number rails.1.number (take outputs net.now.circuit.outputs))) }
+{
+    let mut out = Clauses::new(alloc);
+    let shown = &net.outputs()[..outputs];
+    push_clauses(&mut out, numbers, source, net, groups, rails, shown)?;
+    Ok(out)
 }
