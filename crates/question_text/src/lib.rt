@@ -10,13 +10,14 @@ mod clauses;
 mod covers;
 mod failing;
 mod gates;
-mod laws;
 mod nodes;
 mod numbers;
-mod question;
+mod parts;
 mod reasons;
 mod rows;
 mod tables;
 mod text;
+mod writer;
 
-pub use laws::scratch;
+pub use clauses::{Clauses, Literals};
+pub use writer::{question, question_text};

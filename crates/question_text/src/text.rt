@@ -34,7 +34,7 @@ fn push_name_line(
 }
 
 /// Adds the comments of so many nets, from a net on.
-pub(crate) fn push_net_lines(
+fn push_net_lines(
     out: &mut Bytes,
     kind: &[u8],
     net: &Netlist,
@@ -55,6 +55,31 @@ pub(crate) fn push_net_lines(
         push_name_line(out, kind, number_at(numbers, number), name)?;
     }
     Ok(())
+}
+
+/// Adds the comments of the inputs.
+pub(crate) fn push_inputs_lines(
+    out: &mut Bytes,
+    net: &Netlist,
+    numbers: &[u32],
+) -> Result<(), AllocError>
+    ensures lines { OnOk result (out.new ≡ out.old ++ net_lines (codes "input") net.now.names numbers.now 0 net.now.circuit.inputs) }
+{
+    push_net_lines(out, b"input", net, numbers, 0, net.inputs())
+}
+
+/// Adds the comments of the nets that nodes drive.
+pub(crate) fn push_nodes_lines(
+    out: &mut Bytes,
+    net: &Netlist,
+    numbers: &[u32],
+) -> Result<(), AllocError>
+    ensures lines { OnOk result (out.new ≡ out.old ++ net_lines (codes "net") net.now.names numbers.now (node_net net.now.circuit 0) (length net.now.circuit.nodes)) }
+{
+    // What each netlist keeps is known from here on.
+    let _nets = net.nets();
+    let first = net.inputs() + net.latches();
+    push_net_lines(out, b"net", net, numbers, first, net.nodes())
 }
 
 /// Adds the comments of a node.

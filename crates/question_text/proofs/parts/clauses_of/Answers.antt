@@ -1,10 +1,10 @@
-use Rattle.std.proofs.Common.{◌≡◌, ◌-◌, [], take, sym, ap, ◌∙◌, arith}
+use Rattle.std.proofs.Common.{◌≡◌, [], take, sym, ap, ◌∙◌}
 use Rattle.std.proofs.lemmas.List.{take-map}
 use Rattle.tsc_net.specs.PlanView.{net_numbers}
 use Rattle.question_text.specs.Gates.{after_clauses}
 use Rattle.question_text.specs.Whole.{clauses_over}
 use Rattle.question_text.proofs.Once.{after_clauses-written}
-use Rattle.question_text.proofs.question.clauses_of.Goals as goal
+use Rattle.question_text.proofs.parts.clauses_of.Goals as goal
 
 pub returns : goal.returns
 returns c =
@@ -12,9 +12,8 @@ returns c =
     let N = c.args.net.now.circuit in
     let n = c.args.numbers.now in
     let list = c.outputs.result.now in
-    let count : c.args.outputs - 0 ≡ c.args.outputs = omega arith in
-    let shown : net_numbers (take (c.args.outputs - 0) list) ≡ take c.args.outputs N.outputs =
-        ap (λ k. net_numbers (take k list)) count ∙ sym (take-map (λ net. net.number) c.args.outputs list) ∙ ap (take c.args.outputs) c.outputs.ensures.outputs in
+    let shown : net_numbers (take c.args.outputs list) ≡ take c.args.outputs N.outputs =
+        sym (take-map (λ net. net.number) c.args.outputs list) ∙ ap (take c.args.outputs) c.outputs.ensures.outputs in
     record {
       clauses =
           c.in_ok-push_clauses.ensures.clauses

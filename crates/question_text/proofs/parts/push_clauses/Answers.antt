@@ -10,7 +10,7 @@ use Rattle.question_text.specs.Failing.{CellsHaveRoom}
 use Rattle.question_text.proofs.Ends.{firsts_rise}
 use Rattle.question_text.proofs.Once.{all_pushed}
 use Rattle.question_text.proofs.Rooms.{source_room, right_room, failing_room}
-use Rattle.question_text.proofs.question.push_clauses.Goals as goal
+use Rattle.question_text.proofs.parts.push_clauses.Goals as goal
 
 pub push_copies-requires-clause-source_room : goal.push_copies-requires-clause-source_room
 push_copies-requires-clause-source_room c =

@@ -1,4 +1,4 @@
-//! All clauses of the question.
+//! The clauses of the question, part by part.
 ghost use Rattle.std.specs.Prelude.{◌≡◌, ◌+◌, ◌<◌, ◌≤◌, ◌^◌, [], ◌∷◌, ◌++◌, length, take, IfOk, OnOk};
 ghost use Rattle.tsc_net.specs.PlanView.{net_numbers};
 ghost use Rattle.exact_question.specs.Rows.{written};
