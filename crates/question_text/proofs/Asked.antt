@@ -1,8 +1,7 @@
 -- What a row asks, pin by pin; and rows one after another.
-use Rattle.std.proofs.Common.{◌≡◌, ℕ, zero, suc, ◌+◌, ◌-◌, ◌<◌, ◌≤◌, Bool, true, false, cond, ◌&&◌, List, [], ◌∷◌, ◌++◌, map, nat_lt, refl, sym, ap, ap₂, ◌∙◌, ◌⊎◌, inl, inr, arith}
+use Rattle.std.proofs.Common.{◌≡◌, ℕ, zero, suc, ◌+◌, ◌-◌, Bool, true, false, cond, List, [], ◌∷◌, ◌++◌, nat_lt, refl, arith}
 use Rattle.tsc_cover.specs.Cover.{Literal as PinLiteral, Free, Wants, literals}
 use Rattle.tsc_bits.specs.Bits.{bit_worth}
-use Rattle.refutations.specs.declared.literal.Literal.{Literal}
 use Rattle.exact_question.specs.Rows.{literal, asked}
 use Rattle.question_text.specs.Covers.{asked_at}
 

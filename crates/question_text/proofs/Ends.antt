@@ -1,5 +1,5 @@
 -- Where the numbers of variables end.
-use Rattle.std.proofs.Common.{◌≡◌, ℕ, zero, suc, ◌+◌, ◌≤◌, Bool, true, false, cond, List, [], ◌∷◌, ◌++◌, ◌<◌, nat_eq, if◌then◌else◌, length, drop, slice_index_or, refl, ap, add-one, arith}
+use Rattle.std.proofs.Common.{◌≡◌, ℕ, ◌+◌, ◌≤◌, Bool, true, false, cond, List, [], ◌∷◌, ◌++◌, ◌<◌, nat_eq, length, drop, slice_index_or, refl, ap, add-one, arith}
 use Rattle.std.proofs.lemmas.List.{at_drop_more}
 use Rattle.fault_secure.specs.Circuit.{Circuit, NodeOf, no_node}
 use Rattle.question_text.specs.Nodes.{wide_of, first_numbers, end_from}

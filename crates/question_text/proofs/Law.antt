@@ -1,17 +1,16 @@
 -- The clauses over numbers are those of the question.
-use Rattle.std.proofs.Common.{◌≡◌, ℕ, zero, suc, ◌+◌, ◌-◌, ◌<◌, ◌≤◌, Bool, true, false, cond, List, [], ◌∷◌, ◌++◌, map, filter, length, take, nat_le, nat_lt, nat_eq, slice_index, slice_index_or, All, refl, sym, ap, ap₂, ◌∙◌, subst, arith, append_assoc, length-append, take_all}
+use Rattle.std.proofs.Common.{◌≡◌, ℕ, zero, suc, ◌+◌, ◌-◌, ◌<◌, ◌≤◌, Bool, true, false, cond, List, [], ◌∷◌, ◌++◌, map, filter, length, take, nat_le, nat_eq, slice_index, slice_index_or, All, refl, sym, ap, ap₂, ◌∙◌, subst, arith, append_assoc, length-append}
 use Rattle.std.proofs.lemmas.List.{map-append, get_or-map, length-map, get_or_append_left, get_or-append-add, get_or-take, length-take-le}
 use Rattle.std.proofs.lemmas.List.Elements.{All-nil, All-cons, All-head, All-tail, All-get_or, All-take, All-append, All-weaker}
 use Rattle.question_text.proofs.Places.{At}
 use Rattle.question_text.proofs.Ends.{groups_least}
 use Rattle.tsc_bits.proofs.Lists.{all_left, all_right}
-use Rattle.fault_secure.specs.Circuit.{Circuit, NodeOf, node, no_node, nets, node_net}
+use Rattle.fault_secure.specs.Circuit.{Circuit, NodeOf, node, nets, node_net}
 use Rattle.fault_secure.specs.CodePlan.{CodePlan, HasGroups, HasShape, monitored, members, members_from, concat_places}
-use Rattle.fault_secure.specs.declared.code.Code.TheVariants.{Parity}
-use Rattle.fault_secure.proofs.PlanSizes.{monitored_count, monitored_within}
+use Rattle.fault_secure.proofs.PlanSizes.{monitored_within}
 use Rattle.refutations.specs.declared.literal.Literal.{Literal}
 use Rattle.tsc_net.specs.declared.plan.Group.{Group}
-use Rattle.exact_question.specs.Variables.{Copy, Source, Right, Failing, Variable, Input, Net, Row, Choice, Gate, Differs, Chosen, OutputDiffers, Odd, RailsDiffer, Unheard, spread}
+use Rattle.exact_question.specs.Variables.{Source, Right, Failing, Variable, Net, Choice, Gate, Differs, Chosen, OutputDiffers, Odd, RailsDiffer, Unheard, spread}
 use Rattle.exact_question.specs.Rows.{literal, rows_of}
 use Rattle.exact_question.specs.Gates.{Claim, yes, no, xor_clauses}
 use Rattle.exact_question.specs.Question.{of_net, differs_at, node_clauses, chosen_by, one_choice, failing_clauses, cover_clauses, output_clauses, word_claim, odd_claim, group_variables, group_clauses, group_is_even, rails_clauses, unheard_clauses, circuit_clauses, wrong}
@@ -22,10 +21,10 @@ use Rattle.question_text.specs.declared.cells.Cell.{Cell}
 use Rattle.question_text.specs.declared.numbers.Numbers.{Numbers}
 use Rattle.question_text.specs.Gates.{is_one, is_zero, turned, xor_of}
 use Rattle.question_text.specs.Covers.{wide, cover_gates}
-use Rattle.question_text.specs.Nodes.{wide_of, first_numbers, numbers_from, end_from, node_gates, nodes_gates}
-use Rattle.question_text.specs.Failing.{cell_from, cells_from, no_cell, cell_at, differs_of, cell_gates, choice_gates, failing_gates}
-use Rattle.question_text.specs.Reasons.{one_at, outputs_gates, ones_from, chain_gates, chain_end, group_gates, group_even, nets_of, groups_gates, groups_even, groups_end, rails_gates, unheard_gates}
-use Rattle.question_text.specs.Whole.{right_first, failing_first, outputs_first, groups_first, rails_first, numbers_of, copies_gates, word_gates, alarm_gates, wrong_of, all_gates}
+use Rattle.question_text.specs.Nodes.{wide_of, numbers_from, nodes_gates}
+use Rattle.question_text.specs.Failing.{cell_from, no_cell, cell_at, differs_of, cell_gates, choice_gates, failing_gates}
+use Rattle.question_text.specs.Reasons.{one_at, outputs_gates, group_gates, group_even, nets_of, groups_gates, groups_even, groups_end, rails_gates, unheard_gates}
+use Rattle.question_text.specs.Whole.{right_first, failing_first, outputs_first, groups_first, rails_first, numbers_of, copies_gates, wrong_of, all_gates}
 use Rattle.question_text.specs.Groups.{AreGroups}
 use Rattle.question_text.proofs.Same.{lit, lits, cover_is}
 use Rattle.question_text.proofs.Standing.{cell_is}

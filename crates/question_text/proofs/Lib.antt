@@ -10,3 +10,4 @@ pub mod Law
 pub mod Rooms
 pub mod TextLines
 pub mod TextLaw
+pub mod Small

@@ -1,16 +1,16 @@
 -- The numbers of the question's variables.
-use Rattle.std.proofs.Common.{◌≡◌, ℕ, zero, suc, ◌+◌, ◌-◌, ◌<◌, ◌≤◌, Bool, true, false, List, [], ◌∷◌, ◌++◌, length, take, nat_le, nat_lt, slice_index, slice_index_or, All, refl, sym, ap, ap₂, ◌∙◌, arith, length-append}
-use Rattle.fault_secure.specs.Circuit.{Circuit, NodeOf, node, no_node}
+use Rattle.std.proofs.Common.{◌≡◌, ℕ, zero, suc, ◌+◌, ◌-◌, ◌<◌, ◌≤◌, Bool, true, false, List, [], ◌∷◌, ◌++◌, length, take, nat_le, nat_lt, slice_index, slice_index_or, refl, sym, ap, ◌∙◌, arith, length-append}
+use Rattle.fault_secure.specs.Circuit.{Circuit, node}
 use Rattle.fault_secure.specs.CodePlan.{CodePlan, members}
-use Rattle.exact_question.specs.Variables.{Copy, Source, Right, Failing, Variable, Input, Net, Row, Choice, Gate, Differs, Chosen, OutputDiffers, Odd, RailsDiffer, Unheard, number_of, spread}
+use Rattle.exact_question.specs.Variables.{Source, Right, Failing, Variable, Input, Net, Row, Choice, Gate, Differs, OutputDiffers, RailsDiffer, Unheard, number_of, spread}
 use Rattle.exact_question.specs.Rows.{rows_of}
 use Rattle.exact_question.specs.Question.{node_variables, chosen_by, failing_variables, group_variables, input_variables, variables}
 use Rattle.exact_question.proofs.InOrder.{variables_are_in_order}
 use Rattle.question_text.specs.Covers.{wide}
-use Rattle.question_text.specs.Nodes.{wide_of, numbers_from, end_from}
-use Rattle.question_text.specs.Failing.{cells_from, cells_end, cell_at}
+use Rattle.question_text.specs.Nodes.{wide_of, numbers_from}
+use Rattle.question_text.specs.Failing.{cells_from, cell_at}
 use Rattle.question_text.specs.Whole.{right_first, failing_first, outputs_first, groups_first}
-use Rattle.question_text.proofs.Places.{At, at_same, at_left, at_right, inputs_long}
+use Rattle.question_text.proofs.Places.{At, at_left, at_right, inputs_long}
 use Rattle.question_text.proofs.Standing.{numbers_least, cells_choice_least, copy_long, failing_copy_long, at_net_of, at_row_of, at_choice, at_gate, at_wrong, at_failing_row, at_differs, at_chosen}
 
 -- the place of an input

@@ -1,7 +1,7 @@
 -- Each literal once, one after another; what is kept of clauses; and clauses one after another.
-use Rattle.std.proofs.Common.{◌≡◌, ℕ, Bool, true, false, not, cond, ◌&&◌, ◌||◌, List, [], ◌∷◌, ◌++◌, map, filter, nat_eq, refl, sym, ap, ap₂, ◌∙◌, append_assoc, append-nil, arith, ◌+◌, ◌<◌, length, take, get_or}
+use Rattle.std.proofs.Common.{◌≡◌, ℕ, Bool, true, false, not, cond, ◌&&◌, ◌||◌, List, [], ◌∷◌, ◌++◌, map, filter, nat_eq, refl, sym, ap, ap₂, ◌∙◌, append_assoc, append-nil, ◌+◌, ◌<◌, length, take, get_or}
 use Rattle.std.specs.List.{list_any}
-use Rattle.std.proofs.lemmas.Bool.{eqb-true, eq-eqb, and_parts, or_parts, or_from, false≢true}
+use Rattle.std.proofs.lemmas.Bool.{eqb-true, eq-eqb, and_parts, false≢true}
 use Rattle.std.proofs.lemmas.List.{take_more}
 use Rattle.std.proofs.lemmas.List.Elements.{filter-append}
 use Rattle.refutations.specs.declared.literal.Literal.{Literal}
@@ -106,7 +106,6 @@ once_push (y ∷ ys) x =
 
 pub once_next : (xs : List Literal) (i : ℕ) (d : Literal) → i < length xs → once (take (i + 1) xs) ≡ with_new (once (take i xs)) (get_or xs i d)
 once_next xs i d inside = ap once (take_more xs i d inside) ∙ once_push (take i xs) (get_or xs i d)
-
 
 -- three parts and a last clause, one after the other
 pub all_pushed : (out a b c : List (List Literal)) (last : List Literal) (first second third all : List (List Literal))

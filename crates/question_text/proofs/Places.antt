@@ -1,16 +1,11 @@
 -- Where variables stand in spread lists.
-use Rattle.std.proofs.Common.{◌≡◌, ℕ, zero, suc, ◌+◌, ◌-◌, ◌<◌, ◌≤◌, Bool, true, false, cond, List, [], ◌∷◌, ◌++◌, map, length, take, nat_le, nat_eq, slice_index, slice_index_or, refl, sym, ap, ap₂, ◌∙◌, subst, arith, length-append}
+use Rattle.std.proofs.Common.{◌≡◌, ℕ, zero, suc, ◌+◌, ◌<◌, ◌≤◌, Bool, true, false, cond, List, [], ◌∷◌, ◌++◌, length, take, nat_le, slice_index_or, refl, sym, ap, ap₂, ◌∙◌, subst, arith, length-append}
 use Rattle.std.proofs.lemmas.List.{get_or_append_left, get_or-append-add}
-use Rattle.fault_secure.specs.Circuit.{Circuit, NodeOf, no_node}
 use Rattle.refutations.specs.declared.literal.Literal.{Literal}
-use Rattle.exact_question.specs.Variables.{Copy, Failing, Variable, Input, Net, Row, Choice, Gate, Differs, Chosen, Unheard, spread}
-use Rattle.exact_question.specs.Rows.{rows_of}
-use Rattle.exact_question.specs.Question.{row_variables, node_variables, chosen_variables, failing_variables, input_variables}
+use Rattle.exact_question.specs.Variables.{Copy, Variable, Input, Row, Unheard, spread}
+use Rattle.exact_question.specs.Question.{row_variables, input_variables}
 use Rattle.question_text.specs.Covers.{next_row, wide}
-use Rattle.question_text.specs.Nodes.{wide_of, first_numbers, numbers_from, end_from}
-use Rattle.question_text.specs.Failing.{cell_from, cell_end, cells_from, cells_end, cell_at}
 use Rattle.question_text.proofs.Same.{two_long}
-use Rattle.question_text.proofs.Ends.{cell_least}
 
 -- a variable stands at a place of a list
 pub record At (vs : List Variable) (k : ℕ) (v : Variable) : Type 0 where

@@ -1,6 +1,6 @@
 -- There is room for all variables.
-use Rattle.std.proofs.Common.{◌≡◌, ℕ, zero, suc, ◌+◌, ◌<◌, ◌≤◌, ◌^◌, List, [], ◌∷◌, ◌++◌, length, slice_index, slice_index_or, ap, sym, ◌∙◌, arith}
-use Rattle.fault_secure.specs.Circuit.{Circuit, NodeOf, node, no_node, node_net}
+use Rattle.std.proofs.Common.{◌≡◌, ℕ, zero, suc, ◌+◌, ◌<◌, ◌≤◌, ◌^◌, List, [], ◌∷◌, length, slice_index, slice_index_or, ap, ◌∙◌, arith}
+use Rattle.fault_secure.specs.Circuit.{Circuit, NodeOf, no_node, node_net}
 use Rattle.tsc_net.specs.declared.plan.Group.{Group}
 use Rattle.question_text.specs.Nodes.{wide_of, numbers_from, end_from, HasRoom}
 use Rattle.question_text.specs.Failing.{cell_end, cells_from, cells_end, cell_at, CellsHaveRoom}

@@ -1,5 +1,5 @@
 -- The clauses of nodes, outputs and groups, with their variables numbered, item by item.
-use Rattle.std.proofs.Common.{◌≡◌, ℕ, zero, suc, ◌+◌, ◌-◌, ◌<◌, ◌≤◌, Bool, true, false, cond, List, [], ◌∷◌, ◌++◌, map, filter, length, take, nat_le, nat_lt, nat_eq, slice_index, slice_index_or, All, refl, sym, ap, ap₂, ◌∙◌, arith, append_assoc, length-append}
+use Rattle.std.proofs.Common.{◌≡◌, ℕ, zero, suc, ◌+◌, ◌-◌, ◌<◌, ◌≤◌, Bool, true, false, cond, List, [], ◌∷◌, ◌++◌, map, length, take, nat_lt, slice_index, slice_index_or, All, refl, sym, ap, ap₂, ◌∙◌, arith, length-append}
 use Rattle.std.proofs.lemmas.List.{map-append, get_or_append_left, get_or-append-add}
 use Rattle.std.proofs.lemmas.List.Elements.{All-head, All-tail}
 use Rattle.fault_secure.specs.Circuit.{NodeOf, no_node}
@@ -7,11 +7,10 @@ use Rattle.fault_secure.specs.CodePlan.{members_from}
 use Rattle.refutations.specs.declared.literal.Literal.{Literal}
 use Rattle.tsc_net.specs.declared.plan.Group.{Group}
 use Rattle.exact_question.specs.Variables.{Copy, Variable, Input, Net, Odd, Unheard, spread}
-use Rattle.exact_question.specs.Rows.{literal}
-use Rattle.exact_question.specs.Gates.{Claim, yes, no, xor_clauses}
+use Rattle.exact_question.specs.Gates.{Claim, yes, xor_clauses}
 use Rattle.exact_question.specs.Question.{of_net, group_variables}
 use Rattle.question_text.specs.declared.cells.Cell.{Cell}
-use Rattle.question_text.specs.Gates.{is_one, is_zero, turned, xor_of}
+use Rattle.question_text.specs.Gates.{is_one, xor_of}
 use Rattle.question_text.specs.Nodes.{wide_of, first_numbers, numbers_from, node_gates, nodes_gates}
 use Rattle.question_text.specs.Failing.{cells_from, cell_end, cell_at, cell_gates, choice_gates, failing_gates}
 use Rattle.question_text.specs.Reasons.{one_at, outputs_gates, ones_from, chain_gates, chain_end, group_gates, group_even, nets_of, group_end, groups_gates, groups_even, groups_end}
@@ -88,7 +87,7 @@ module _ (num : Variable → ℕ) where
 
   pub failing_are : (f : ℕ → NodeOf → List (List Claim)) (numbers right : List ℕ) (inputs : ℕ) (cells : List Cell) (j net : ℕ) (nodes : List NodeOf)
       → ((k : ℕ) → k < length nodes → map (lits num) (f k (slice_index_or nodes k no_node))
-          ≡ cell_gates numbers (slice_index right (net + k)) inputs cells (cell_at cells (j + k)) (slice_index_or nodes k no_node) ++ choice_gates cells (j + k))
+      ≡ cell_gates numbers (slice_index right (net + k)) inputs cells (cell_at cells (j + k)) (slice_index_or nodes k no_node) ++ choice_gates cells (j + k))
       → map (lits num) (spread f nodes) ≡ failing_gates numbers right inputs cells j net nodes
   failing_are f numbers right inputs cells j net [] each = refl
   failing_are f numbers right inputs cells j net (n ∷ nodes) each =
@@ -106,7 +105,7 @@ module _ (num : Variable → ℕ) where
 
   pub outputs_are : (f : ℕ → ℕ → List (List Claim)) (source right shown : List ℕ) (place at : ℕ) (nets : List ℕ)
       → ((k : ℕ) → k < length nets → map (lits num) (f k (slice_index_or nets k 0))
-          ≡ xor_of (at + k) (one_at source (slice_index_or nets k 0)) (one_at right (slice_index shown (place + k))))
+      ≡ xor_of (at + k) (one_at source (slice_index_or nets k 0)) (one_at right (slice_index shown (place + k))))
       → map (lits num) (spread f nets) ≡ outputs_gates source right shown place at nets
   outputs_are f source right shown place at [] each = refl
   outputs_are f source right shown place at (net ∷ nets) each =
@@ -162,7 +161,7 @@ module _ (num : Variable → ℕ) where
   module _ (none : Group) (right shown : List ℕ) where
     pub groups_are : (f : ℕ → List ℕ → List (List Claim)) (check at : ℕ) (groups : List Group)
         → ((k : ℕ) → k < length groups → map (lits num) (f k ((slice_index_or groups k none).places ++ (check + k) ∷ []))
-            ≡ group_gates right (groups_end at (take k groups)) (nets_of shown (slice_index_or groups k none)))
+        ≡ group_gates right (groups_end at (take k groups)) (nets_of shown (slice_index_or groups k none)))
         → map (lits num) (spread f (members_from check (map (λ g. g.places) groups))) ≡ groups_gates right shown at groups
     groups_are f check at [] each = refl
     groups_are f check at (g ∷ groups) each =
@@ -174,7 +173,7 @@ module _ (num : Variable → ℕ) where
 
     pub evens_are : (f : ℕ → List ℕ → List Claim) (check at : ℕ) (groups : List Group)
         → ((k : ℕ) → k < length groups → map (lit num) (f k ((slice_index_or groups k none).places ++ (check + k) ∷ []))
-            ≡ group_even right (groups_end at (take k groups)) (nets_of shown (slice_index_or groups k none)))
+        ≡ group_even right (groups_end at (take k groups)) (nets_of shown (slice_index_or groups k none)))
         → map (lit num) (spread f (members_from check (map (λ g. g.places) groups))) ≡ groups_even right shown at groups
     evens_are f check at [] each = refl
     evens_are f check at (g ∷ groups) each =

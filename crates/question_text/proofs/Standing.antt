@@ -1,7 +1,7 @@
 -- Where the variables of nodes stand.
-use Rattle.std.proofs.Common.{◌≡◌, ℕ, zero, suc, ◌+◌, ◌-◌, ◌<◌, ◌≤◌, Bool, true, false, cond, List, [], ◌∷◌, ◌++◌, map, length, take, nat_le, nat_eq, slice_index, slice_index_or, refl, sym, ap, ap₂, ◌∙◌, arith, length-append}
+use Rattle.std.proofs.Common.{◌≡◌, ℕ, zero, suc, ◌+◌, ◌-◌, ◌<◌, ◌≤◌, Bool, true, false, cond, List, [], ◌∷◌, ◌++◌, length, take, nat_le, nat_eq, slice_index, slice_index_or, refl, ap, ◌∙◌, arith, length-append}
 use Rattle.fault_secure.specs.Circuit.{NodeOf, no_node}
-use Rattle.exact_question.specs.Variables.{Copy, Failing, Variable, Net, Row, Choice, Gate, Differs, Chosen, spread}
+use Rattle.exact_question.specs.Variables.{Copy, Failing, Variable, Net, Row, Choice, Gate, Differs, spread}
 use Rattle.exact_question.specs.Rows.{rows_of}
 use Rattle.exact_question.specs.Question.{row_variables, node_variables, chosen_by, chosen_variables, failing_variables}
 use Rattle.question_text.specs.Covers.{wide}

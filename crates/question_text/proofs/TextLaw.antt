@@ -1,7 +1,7 @@
 -- The clauses of the code are the question, and its lines are the text.
-use Rattle.std.proofs.Common.{◌≡◌, ℕ, ◌+◌, ◌<◌, List, [], ◌∷◌, ◌++◌, codes, map, length, slice_index, slice_index_or, refl, sym, ap, ap₂, ◌∙◌, subst, arith}
+use Rattle.std.proofs.Common.{◌≡◌, ℕ, ◌+◌, ◌<◌, List, [], ◌∷◌, ◌++◌, codes, map, length, slice_index, slice_index_or, refl, sym, ap, ap₂, ◌∙◌, arith}
 use Rattle.std.specs.List.{flat_map}
-use Rattle.std.proofs.lemmas.List.{get_or_append_left, length-map}
+use Rattle.std.proofs.lemmas.List.{get_or_append_left}
 use Rattle.fault_secure.specs.Circuit.{Circuit, node_net, no_node}
 use Rattle.fault_secure.specs.CodePlan.{CodePlan}
 use Rattle.fault_secure.specs.declared.code.Code.TheVariants.{Parity}
@@ -12,11 +12,10 @@ use Rattle.tsc_net.specs.PlanView.{plan_of, net_numbers, KeepsRules}
 use Rattle.tsc_net.specs.declared.ids.NetId.{NetId}
 use Rattle.tsc_net.specs.declared.plan.Group.{Group}
 use Rattle.tsc_net.specs.declared.plan.Plan.TheInside.{Inside}
-use Rattle.exact_question.specs.Variables.{Source, Right, Failing, Variable, Input, Net, Choice, Unheard, number_of, spread}
+use Rattle.exact_question.specs.Variables.{Source, Right, Failing, Variable, Net, Choice, Unheard, number_of, spread}
 use Rattle.exact_question.specs.Rows.{written}
 use Rattle.exact_question.specs.Question.{input_variables, variables, question}
 use Rattle.exact_question.specs.Laws.{IsAsked}
-use Rattle.question_text.specs.declared.cells.Cell.{Cell}
 use Rattle.question_text.specs.declared.numbers.Numbers.{Numbers}
 use Rattle.question_text.specs.Nodes.{first_numbers, numbers_from}
 use Rattle.question_text.specs.Failing.{cell_at}
@@ -25,7 +24,7 @@ use Rattle.question_text.specs.Groups.{AreGroups}
 use Rattle.question_text.specs.Text.{name_line, header, clause_line, comments, question_text}
 use Rattle.question_text.specs.Lines.{net_lines, cell_lines, cells_lines, comment_lines}
 use Rattle.question_text.proofs.Places.{inputs_long}
-use Rattle.question_text.proofs.Numbered.{num, num_input, at_input, num_source, num_right, all_long}
+use Rattle.question_text.proofs.Numbered.{num_input, at_input, num_source, num_right, all_long}
 use Rattle.question_text.proofs.Spreads.{first_long, first_at}
 use Rattle.question_text.proofs.Law.{all_are, end_is, source_at, right_at, of_choice, of_wrong}
 use Rattle.question_text.proofs.TextLines.{net_lines_are, cells_lines_are}

@@ -1,8 +1,7 @@
 -- The comments, net by net; and that those over numbers are those of the text.
-use Rattle.std.proofs.Common.{◌≡◌, ℕ, zero, suc, ◌+◌, ◌-◌, ◌<◌, List, [], ◌∷◌, ◌++◌, length, slice_index, slice_index_or, refl, ap, ap₂, sym, ◌∙◌, arith}
-use Rattle.fault_secure.specs.Circuit.{NodeOf}
+use Rattle.std.proofs.Common.{◌≡◌, ℕ, suc, ◌+◌, ◌-◌, ◌<◌, List, [], ◌∷◌, ◌++◌, length, slice_index, slice_index_or, refl, ap, ap₂, ◌∙◌, arith}
 use Rattle.tsc_net.specs.Names.{text_at}
-use Rattle.exact_question.specs.Variables.{Variable, spread}
+use Rattle.exact_question.specs.Variables.{spread}
 use Rattle.question_text.specs.declared.cells.Cell.{Cell}
 use Rattle.question_text.specs.Failing.{cell_at}
 use Rattle.question_text.specs.Text.{name_line}

@@ -1,5 +1,5 @@
 -- Clauses of covers, where each net has a number, and the variables of rows are numbered one after another.
-use Rattle.std.specs.Prelude.{ℕ, ◌+◌, ◌-◌, Bool, ◌&&◌, List, [], ◌∷◌, ◌++◌, map, length, nat_lt, nat_le, nat_eq, if◌then◌else◌, slice_index, slice_index_or}
+use Rattle.std.specs.Prelude.{ℕ, ◌+◌, ◌-◌, ◌&&◌, List, [], ◌∷◌, ◌++◌, map, length, nat_lt, nat_le, nat_eq, if◌then◌else◌, slice_index, slice_index_or}
 use Rattle.std.specs.List.{list_any}
 use Rattle.tsc_bits.specs.Bits.{bit_worth}
 use Rattle.refutations.specs.declared.literal.Literal.{Literal}

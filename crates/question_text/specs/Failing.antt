@@ -46,9 +46,9 @@ abbrev pub choice_gates : List Cell → ℕ → List (List Literal)
 choice_gates cells j =
     if nat_eq j 0 then []
     else (is_zero (cell_at cells (j - 1)).chosen ∷ is_one (cell_at cells j).chosen ∷ [])
-        ∷ (is_zero (cell_at cells j).choice ∷ is_one (cell_at cells j).chosen ∷ [])
-        ∷ (is_zero (cell_at cells j).choice ∷ is_zero (cell_at cells (j - 1)).chosen ∷ [])
-        ∷ []
+    ∷ (is_zero (cell_at cells j).choice ∷ is_one (cell_at cells j).chosen ∷ [])
+    ∷ (is_zero (cell_at cells j).choice ∷ is_zero (cell_at cells (j - 1)).chosen ∷ [])
+    ∷ []
 
 -- what the net of a node with these variables is, and what its cover gives
 abbrev pub wrong_gates : List ℕ → Cell → NodeOf → List (List Literal)

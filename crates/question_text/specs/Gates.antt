@@ -1,5 +1,5 @@
 -- Clauses of gates over variables that are numbered, and a list of clauses after some more.
-use Rattle.std.specs.Prelude.{ℕ, Bool, true, false, not, List, [], ◌∷◌, ◌++◌, map, if◌then◌else◌}
+use Rattle.std.specs.Prelude.{ℕ, true, false, not, List, [], ◌∷◌, ◌++◌, map, if◌then◌else◌}
 use Rattle.std.specs.List.{list_any}
 use Rattle.refutations.specs.declared.literal.Literal.{Literal}
 use Rattle.exact_question.specs.Rows.{literal, is_literal, written}

@@ -7,3 +7,4 @@ pub mod Whole
 pub mod Groups
 pub mod Text
 pub mod Lines
+pub mod SmallText

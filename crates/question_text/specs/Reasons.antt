@@ -1,5 +1,5 @@
 -- The clauses of what may be wrong, over the numbers of variables, and the literals of the last clause.
-use Rattle.std.specs.Prelude.{ℕ, ◌+◌, List, [], ◌∷◌, ◌++◌, map, length, take, slice_index}
+use Rattle.std.specs.Prelude.{ℕ, ◌+◌, List, [], ◌∷◌, ◌++◌, map, length, slice_index}
 use Rattle.refutations.specs.declared.literal.Literal.{Literal}
 use Rattle.tsc_net.specs.declared.plan.Group.{Group}
 use Rattle.question_text.specs.declared.cells.Cell.{Cell}

@@ -33,8 +33,8 @@ comments S N all =
     ++ spread (λ j n. name_line (codes "net") (number_of (Net Source j) all) (text_at S.names (node_net S.circuit j))) S.circuit.nodes
     ++ spread (λ j n. name_line (codes "net") (number_of (Net Right j) all) (text_at N.names (node_net N.circuit j))) N.circuit.nodes
     ++ spread (λ j n.
-        name_line (codes "cell") (number_of (Choice j) all) (text_at N.names (node_net N.circuit j))
-        ++ name_line (codes "wrong") (number_of (Net Failing j) all) (text_at N.names (node_net N.circuit j))) N.circuit.nodes
+    name_line (codes "cell") (number_of (Choice j) all) (text_at N.names (node_net N.circuit j))
+    ++ name_line (codes "wrong") (number_of (Net Failing j) all) (text_at N.names (node_net N.circuit j))) N.circuit.nodes
 
 -- the text of the question of a source and a netlist with its plan
 abbrev pub question_text : NetlistOf → NetlistOf → CodePlan → List ℕ

@@ -4,7 +4,6 @@ use Rattle.fault_secure.specs.Circuit.{Circuit, node_net}
 use Rattle.fault_secure.specs.CodePlan.{CodePlan}
 use Rattle.refutations.specs.declared.literal.Literal.{Literal}
 use Rattle.tsc_net.specs.declared.plan.Group.{Group}
-use Rattle.question_text.specs.declared.cells.Cell.{Cell}
 use Rattle.question_text.specs.declared.numbers.Numbers.{Numbers}
 use Rattle.question_text.specs.Gates.{is_one, is_zero}
 use Rattle.question_text.specs.Nodes.{first_numbers, numbers_from, end_from, nodes_gates}

@@ -82,7 +82,9 @@ pub(crate) fn turned(l: Literal) -> Literal
 fn is_among(l: Literal, others: &[Literal]) -> bool
     ensures among { result ≡ list_any (λ m. is_literal l m) others.now }
 {
-    others.iter().any(|m| l.variable == m.variable && l.wants == m.wants)
+    others
+        .iter()
+        .any(|m| l.variable == m.variable && l.wants == m.wants)
 }
 
 /// Whether a literal and its negation stand among the literals.

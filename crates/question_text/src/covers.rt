@@ -50,12 +50,7 @@ pub(crate) fn next_row(at: u32, row: &[Literal]) -> u32
 }
 
 /// Adds the clauses of a row's variable, where it has one.
-fn push_row(
-    out: &mut Clauses,
-    numbers: &[u32],
-    at: u32,
-    row: &[Literal],
-) -> Result<(), AllocError>
+fn push_row(out: &mut Clauses, numbers: &[u32], at: u32, row: &[Literal]) -> Result<(), AllocError>
     ensures clauses { OnOk result (out.new ≡ after_clauses out.old (row_gates numbers.now at row.now)) }
 {
     if row.len() >= 2 {

@@ -2,7 +2,7 @@
 //! Its main call is `question_text`, which writes the question in DIMACS; `question` answers its clauses alone.
 //! It stands on `exact_question` (what the question is), `tsc_net` (netlists and plans), `refutations` (literals) and `tsc_text` (numbers as words).
 //! Its main promise: the text is the one that is stated of the source, the netlist and its plan, byte for byte.
-//! Definitions, in reading order: specs/Text (the text), and of the code alone Gates, Covers.
+//! Definitions, in reading order: specs/Text (the text), SmallText (a worked one), and of the code alone Gates, Covers, Nodes, Failing, Reasons, Whole, Groups, Lines.
 #![tactic(auto)]
 
 mod cells;
@@ -10,6 +10,7 @@ mod clauses;
 mod covers;
 mod failing;
 mod gates;
+mod laws;
 mod nodes;
 mod numbers;
 mod parts;
@@ -20,4 +21,5 @@ mod text;
 mod writer;
 
 pub use clauses::{Clauses, Literals};
+pub use laws::small_text;
 pub use writer::{question, question_text};

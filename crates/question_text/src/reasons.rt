@@ -46,7 +46,12 @@ pub(crate) fn push_outputs(
 {
     let mut at = first;
     for (place, net) in nets.iter().enumerate() {
-        push_xor(out, at, one_at(source, *net), one_at(right, net_at(shown, place)))?;
+        push_xor(
+            out,
+            at,
+            one_at(source, *net),
+            one_at(right, net_at(shown, place)),
+        )?;
         at += 1;
     }
     Ok(())

@@ -30,12 +30,7 @@ pub(crate) fn rows_of(alloc: Global, cover: &Cover, reads: &[NetId]) -> Result<C
 }
 
 /// What a row asks of the nets at its pins.
-fn asked(
-    alloc: Global,
-    row: &Row01,
-    width: usize,
-    reads: &[NetId],
-) -> Result<Literals, AllocError>
+fn asked(alloc: Global, row: &Row01, width: usize, reads: &[NetId]) -> Result<Literals, AllocError>
     requires wide { width ≤ 64 }
     ensures asked { IfOk result (λ list. list ≡ asked (literals width row.now.care row.now.value) (net_numbers reads.now)) }
 {

@@ -83,7 +83,12 @@ pub(crate) fn push_nodes_lines(
 }
 
 /// Adds the comments of a node.
-fn push_cell_lines(out: &mut Bytes, cell: Cell, net: &Netlist, number: NetId) -> Result<(), AllocError>
+fn push_cell_lines(
+    out: &mut Bytes,
+    cell: Cell,
+    net: &Netlist,
+    number: NetId,
+) -> Result<(), AllocError>
     requires known { number.number < nets net.now.circuit }
     ensures lines { OnOk result (out.new ≡ out.old ++ cell_lines net.now.names cell number.number) }
 {

@@ -11,7 +11,9 @@ ghost use Rattle.question_text.specs.Whole.{numbers_of, rails_first};
 use crate::clauses::Clauses;
 use crate::numbers::{Numbers, numbers_of};
 use crate::parts::clauses_of;
-use crate::text::{push_cells_lines, push_clauses, push_header, push_inputs_lines, push_nodes_lines};
+use crate::text::{
+    push_cells_lines, push_clauses, push_header, push_inputs_lines, push_nodes_lines,
+};
 use std::alloc::{AllocError, Global};
 use tsc_io::Bytes;
 use tsc_net::{Group, Netlist, Plan};

@@ -1,6 +1,5 @@
 use Rattle.std.proofs.Common.{◌≡◌, length, ap, sym, ◌∙◌, arith}
 use Rattle.std.proofs.lemmas.List.{length-map}
-use Rattle.tsc_net.specs.PlanView.{net_numbers}
 use Rattle.question_text.specs.Nodes.{end_from}
 use Rattle.question_text.specs.Failing.{cells_end}
 use Rattle.question_text.specs.Whole.{right_first, failing_first, outputs_first}

@@ -13,7 +13,7 @@ returns c =
     let n = c.args.numbers.now in
     let list = c.outputs.result.now in
     let shown : net_numbers (take c.args.outputs list) ≡ take c.args.outputs N.outputs =
-        sym (take-map (λ net. net.number) c.args.outputs list) ∙ ap (take c.args.outputs) c.outputs.ensures.outputs in
+    sym (take-map (λ net. net.number) c.args.outputs list) ∙ ap (take c.args.outputs) c.outputs.ensures.outputs in
     record {
       clauses =
           c.in_ok-push_clauses.ensures.clauses

@@ -39,7 +39,7 @@ returns c =
     let N = c.args.net.now.circuit in
     let n = c.args.numbers.now in
     let wrong : c.push_word.new.wrong ≡ ones_from n.outputs C.outputs ++ groups_even n.right N.outputs n.groups c.args.groups.now =
-        c.in_ok-push_word.ensures.wrong ∙ ap (λ (list : List Literal). list ++ ones_from n.outputs C.outputs ++ groups_even n.right N.outputs n.groups c.args.groups.now) c.new-wrong.ensures.empty in
+    c.in_ok-push_word.ensures.wrong ∙ ap (λ (list : List Literal). list ++ ones_from n.outputs C.outputs ++ groups_even n.right N.outputs n.groups c.args.groups.now) c.new-wrong.ensures.empty in
     record {
       clauses = all_pushed c.args.out.now (copies_gates n C N) (word_gates n C N c.args.groups.now)
           (alarm_gates n N.inputs c.args.rails.0.number c.args.rails.1.number (net_numbers c.args.shown.now)) (wrong_of n C N c.args.groups.now)

@@ -1,4 +1,4 @@
-use Rattle.std.proofs.Common.{◌≡◌, ◌++◌, drop, length}
+use Rattle.std.proofs.Common.{◌≡◌, ◌++◌, drop}
 use Rattle.tsc_net.specs.PlanView.{net_numbers}
 use Rattle.question_text.specs.Gates.{after_clauses}
 use Rattle.question_text.specs.Reasons.{groups_gates, groups_even, groups_end}

@@ -1,4 +1,4 @@
-use Rattle.std.proofs.Common.{◌≡◌, ◌+◌, ◌++◌, drop, length}
+use Rattle.std.proofs.Common.{◌≡◌, ◌+◌, ◌++◌, drop}
 use Rattle.tsc_net.specs.PlanView.{net_numbers}
 use Rattle.question_text.specs.Reasons.{ones_from}
 use Rattle.question_text.proofs.reasons.push_ones.Given as goal

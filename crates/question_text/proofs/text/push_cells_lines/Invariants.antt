@@ -1,5 +1,4 @@
-use Rattle.std.proofs.Common.{◌≡◌, ◌+◌, ◌-◌, ◌++◌, drop, length}
-use Rattle.std.specs.List.{flat_map}
+use Rattle.std.proofs.Common.{◌≡◌, ◌-◌, ◌++◌, length}
 use Rattle.fault_secure.specs.Circuit.{node_net}
 use Rattle.question_text.specs.Lines.{cells_lines}
 use Rattle.question_text.proofs.text.push_cells_lines.Given as goal

@@ -1,4 +1,4 @@
-use Rattle.std.proofs.Common.{◌≡◌, ◌≤◌, length, take, sym, ap, ◌∙◌, subst, arith}
+use Rattle.std.proofs.Common.{take, ap, ◌∙◌, arith}
 use Rattle.fault_secure.specs.CodePlan.{CodePlan}
 use Rattle.exact_question.specs.Rows.{written}
 use Rattle.question_text.specs.declared.numbers.Numbers.{Numbers}
