@@ -1,0 +1,13 @@
+pub mod Once
+pub mod Asked
+pub mod Ends
+pub mod Same
+pub mod Places
+pub mod Standing
+pub mod Numbered
+pub mod Spreads
+pub mod Law
+pub mod Rooms
+pub mod TextLines
+pub mod TextLaw
+pub mod Small

@@ -1,0 +1,9 @@
+use Rattle.std.proofs.Common.{◌≡◌, drop}
+use Rattle.fault_secure.specs.Circuit.{node_net}
+use Rattle.question_text.specs.Gates.{after_clauses}
+use Rattle.question_text.specs.Nodes.{nodes_gates}
+use Rattle.question_text.proofs.nodes.push_nodes.Given as goal
+
+abbrev pub invariant-loop-place : goal.invariant-loop-place
+invariant-loop-place l =
+    after_clauses l.out (nodes_gates l.numbers (node_net l.net.circuit l.place) (drop l.place l.net.circuit.nodes)) ≡ after_clauses l.initial.out (nodes_gates l.numbers (node_net l.net.circuit 0) l.net.circuit.nodes)

@@ -1,0 +1,10 @@
+pub mod Gates
+pub mod Covers
+pub mod Nodes
+pub mod Failing
+pub mod Reasons
+pub mod Whole
+pub mod Groups
+pub mod Text
+pub mod Lines
+pub mod SmallText
