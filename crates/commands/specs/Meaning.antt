@@ -3,12 +3,12 @@ use Rattle.std.specs.Prelude.{ℕ, List, codes, if◌then◌else◌, Option, Som
 use Rattle.std.specs.Str.{bytes_eq}
 use Rattle.tsc_text.specs.Number.{number_of}
 use Rattle.commands.specs.declared.command.Command.{Command}
-use Rattle.commands.specs.declared.command.Command.TheVariants.{SynthBlif, SynthWatched, SynthKiss, SynthPla, Audit, AuditWide, AuditExact, AuditMapped, Faults, Vectors, Sim, Join}
+use Rattle.commands.specs.declared.command.Command.TheVariants.{SynthBlif, SynthWatched, SynthKiss, SynthPla, Audit, AuditWide, AuditExact, AuditMapped, AskExact, Faults, Vectors, Sim, Join}
 use Rattle.commands.specs.declared.request.Request.{Request}
 use Rattle.commands.specs.declared.request.Request.TheVariants.{Read, Make, Help}
 use Rattle.commands.specs.declared.source_format.SourceFormat.TheVariants.{Blif, Kiss, Pla}
 use Rattle.commands.specs.SimWords.{sim_fault}
-use Rattle.commands.specs.Words.{format_named, is_audit, is_audit_exact, is_audit_wide, is_faults, is_help, is_join, is_make, is_synth, is_vectors, machine_code_named, rows_named, way_named, word_at}
+use Rattle.commands.specs.Words.{format_named, is_ask, is_audit, is_audit_exact, is_audit_wide, is_faults, is_help, is_join, is_make, is_synth, is_vectors, machine_code_named, rows_named, way_named, word_at}
 
 -- the synthesis of a BLIF source that a word names: `watched`, or a way
 abbrev pub blif_synthesis_named : List ℕ → Option Command
@@ -26,6 +26,7 @@ command_named words =
     else if is_audit_wide words then option_map AuditWide (rows_named (word_at words 2))
     else if is_audit_exact words then option_map AuditExact (format_named (word_at words 2))
     else if is_audit words (codes "mapped") then Some AuditMapped
+    else if is_ask words (codes "exact") then Some AskExact
     else if is_faults words then Some Faults
     else if is_vectors words then Some Vectors
     else if is_join words then Some Join

@@ -27,6 +27,10 @@ is_synth words format = length words == 3 && (word_is words 0 (codes "synth") &&
 abbrev pub is_audit : List (List ℕ) → List ℕ → Bool
 is_audit words judged = length words == 2 && (word_is words 0 (codes "audit") && word_is words 1 judged)
 
+-- the words are `ask` and this
+abbrev pub is_ask : List (List ℕ) → List ℕ → Bool
+is_ask words asked = length words == 2 && (word_is words 0 (codes "ask") && word_is words 1 asked)
+
 -- the way of synthesis that a word names
 abbrev pub way_named : List ℕ → Option Way
 way_named word =

@@ -2,7 +2,7 @@
 ghost use Rattle.std.specs.Prelude.{◌≡◌, ◌<◌, length, option_map, true, IfErr, IfOk};
 ghost use Rattle.commands.specs.Meaning.{blif_synthesis_named, command_named};
 ghost use Rattle.commands.specs.SimWords.{has_fault_form, sim_fault};
-ghost use Rattle.commands.specs.Words.{format_named, is_audit, is_audit_exact, is_audit_wide, is_faults, is_join, is_synth, is_vectors, machine_code_named, rows_named, way_named, word_at, word_is};
+ghost use Rattle.commands.specs.Words.{format_named, is_ask, is_audit, is_audit_exact, is_audit_wide, is_faults, is_join, is_synth, is_vectors, machine_code_named, rows_named, way_named, word_at, word_is};
 
 use crate::machine_code::MachineCode;
 use crate::row_count::{RowCount, rows_named};
@@ -34,6 +34,8 @@ pub enum Command {
     AuditExact(SourceFormat),
     /// `audit mapped`: from a netlist with a mapped one after it to whether this is the first one mapped cover by cover.
     AuditMapped,
+    /// `ask exact`: from a BLIF source with a netlist after it to the exact question of both, as clauses.
+    AskExact,
     /// `faults`: from a netlist to its fault list.
     Faults,
     /// `vectors`: from a netlist to its test vectors.
@@ -67,6 +69,8 @@ pub fn command_of(alloc: Global, words: &Words) -> Result<Option<Command>, Alloc
         Ok(format_named(word_at(words, 2)).map(Command::AuditExact))
     } else if is_audit(words, b"mapped") {
         Ok(Some(Command::AuditMapped))
+    } else if is_ask(words, b"exact") {
+        Ok(Some(Command::AskExact))
     } else if is_faults(words) {
         Ok(Some(Command::Faults))
     } else if is_vectors(words) {
@@ -155,6 +159,13 @@ fn is_audit(words: &Words, judged: &[u8]) -> bool
     ensures same { result ≡ is_audit words.now judged.now }
 {
     words.len() == 2 && word_is(words, 0, b"audit") && word_is(words, 1, judged)
+}
+
+/// Whether the words are `ask` and this.
+fn is_ask(words: &Words, asked: &[u8]) -> bool
+    ensures same { result ≡ is_ask words.now asked.now }
+{
+    words.len() == 2 && word_is(words, 0, b"ask") && word_is(words, 1, asked)
 }
 
 /// Whether there are three words, and the first are `audit` and `wide`.
