@@ -30,8 +30,13 @@ groups_few : (f : ℕ → List ℕ → List Variable) → ((g : ℕ) (places : L
     → (check : ℕ) (groups : List (List ℕ)) → length (spread f (members_from check groups)) ≤ length (concat_places groups)
 groups_few f each check [] = omega arith
 groups_few f each check (group ∷ groups) =
-    omega (arith, length-append (f 0 (group ++ check ∷ [])) (spread (λ g. f (suc g)) (members_from (suc check) groups)), each 0 group check,
-    length-append group (concat_places groups), groups_few (λ g. f (suc g)) (λ g. each (suc g)) (suc check) groups)
+    omega (
+      arith,
+      length-append (f 0 (group ++ check ∷ [])) (spread (λ g. f (suc g)) (members_from (suc check) groups)),
+      each 0 group check,
+      length-append group (concat_places groups),
+      groups_few (λ g. f (suc g)) (λ g. each (suc g)) (suc check) groups,
+    )
 
 -- ---- what each item has
 
@@ -59,8 +64,12 @@ chosen_few (suc j) = omega arith
 
 failing_few : (j : ℕ) (n : NodeOf) → length (failing_variables j n) ≤ 5 + length n.cover.rows
 failing_few j n =
-    omega (arith, spread_rows_few Failing j n, chosen_few j,
-    length-append (spread (row_variables Failing j) (rows_of n)) (Differs j ∷ chosen_variables j))
+    omega (
+      arith,
+      spread_rows_few Failing j n,
+      chosen_few j,
+      length-append (spread (row_variables Failing j) (rows_of n)) (Differs j ∷ chosen_variables j),
+    )
 
 group_few : (g : ℕ) (places : List ℕ) (check : ℕ) → length (group_variables g (places ++ check ∷ [])) ≤ length places
 group_few g [] check = omega arith
@@ -88,10 +97,24 @@ few_variables C N P made parity outputs inputs source right =
     let of_groups = spread group_variables (members P) in
     let shape : Code → Type 0 = λ code. HasShape code P in
     let most = made.most_outputs in
-    omega (arith, most, outputs, inputs, source, right, inputs_few N.inputs, nodes_few (node_variables Source) (node_few Source) C.nodes,
-    nodes_few (node_variables Right) (node_few Right) N.nodes, nodes_few failing_variables failing_few N.nodes,
-    each_few (λ place (net : ℕ). OutputDiffers place ∷ []) (λ k net. omega arith) C.outputs,
-    groups_few group_variables group_few P.outputs P.groups, places_few P (subst shape parity made.shape),
-    length-append of_inputs of_source, length-append (of_inputs ++ of_source) of_right, length-append (of_inputs ++ of_source ++ of_right) of_failing,
-    length-append (of_inputs ++ of_source ++ of_right ++ of_failing) of_outputs, length-append (of_inputs ++ of_source ++ of_right ++ of_failing ++ of_outputs) of_groups,
-    length-append (of_inputs ++ of_source ++ of_right ++ of_failing ++ of_outputs ++ of_groups) (RailsDiffer Right ∷ RailsDiffer Failing ∷ Unheard ∷ []))
+    omega (
+      arith,
+      most,
+      outputs,
+      inputs,
+      source,
+      right,
+      inputs_few N.inputs,
+      nodes_few (node_variables Source) (node_few Source) C.nodes,
+      nodes_few (node_variables Right) (node_few Right) N.nodes,
+      nodes_few failing_variables failing_few N.nodes,
+      each_few (λ place (net : ℕ). OutputDiffers place ∷ []) (λ k net. omega arith) C.outputs,
+      groups_few group_variables group_few P.outputs P.groups,
+      places_few P (subst shape parity made.shape),
+      length-append of_inputs of_source,
+      length-append (of_inputs ++ of_source) of_right,
+      length-append (of_inputs ++ of_source ++ of_right) of_failing,
+      length-append (of_inputs ++ of_source ++ of_right ++ of_failing) of_outputs,
+      length-append (of_inputs ++ of_source ++ of_right ++ of_failing ++ of_outputs) of_groups,
+      length-append (of_inputs ++ of_source ++ of_right ++ of_failing ++ of_outputs ++ of_groups) (RailsDiffer Right ∷ RailsDiffer Failing ∷ Unheard ∷ []),
+    )

@@ -38,8 +38,12 @@ at_end_few (Some line) = line_with_few line.number false (words_of line.bytes)
 lines_few : (open_line : Option OpenLine) (number : ℕ) (ps : List (List ℕ)) → length (lines_from open_line number ps) ≤ length ps + 1
 lines_few open_line number [] = omega (arith, at_end_few open_line)
 lines_few open_line number (p ∷ ps) =
-    omega (arith, length-append (line_ended open_line number p) (lines_from (line_left open_line number p) (number + 1) ps), ended_few open_line number p,
-    lines_few (line_left open_line number p) (number + 1) ps)
+    omega (
+      arith,
+      length-append (line_ended open_line number p) (lines_from (line_left open_line number p) (number + 1) ps),
+      ended_few open_line number p,
+      lines_few (line_left open_line number p) (number + 1) ps,
+    )
 
 pub lines_of_few : (text : List ℕ) → length (lines_of text) ≤ length text + 2
 lines_of_few text =

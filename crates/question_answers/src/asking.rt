@@ -96,12 +96,7 @@ fn question_read(
 }
 
 /// The question, where it is asked.
-fn asked(
-    alloc: Global,
-    source: &Netlist,
-    net: &Netlist,
-    plan: &Plan,
-) -> Result<Reply, AllocError>
+fn asked(alloc: Global, source: &Netlist, net: &Netlist, plan: &Plan) -> Result<Reply, AllocError>
     requires fits { FitsQuestion source.now.circuit net.now.circuit plan.now }
     requires latches { length source.now.circuit.latches ≡ 0 }
     requires inputs { source.now.circuit.inputs ≤ 1024 }
