@@ -67,6 +67,8 @@ fn latch_from(section: &SectionLines, from: usize) -> Option<usize>
 fn has_other_clock(lines: &SectionLines, others: &SectionLines) -> bool
     ensures other { result ≡ has_other_clock lines.now others.now }
 {
+    // That a place among the second lines is a `usize` is known from here on.
+    let _count = others.len();
     let mut from = 0;
     for place in 0..lines.len() {
         let line = lines.line(place);
