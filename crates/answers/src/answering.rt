@@ -11,6 +11,7 @@ use exact_answers::audit_exactly;
 use joint_answers::joint_in;
 use mapping_answers::audit_mapped;
 use netlist_answers::{Printout, audit_text, finished, listed_netlist, test_vectors};
+use question_answers::ask_exactly;
 use refusals::Refusal;
 use std::alloc::Global;
 use tsc_io::Bytes;
@@ -38,6 +39,7 @@ pub fn answer(alloc: Global, command: Command, text: &Bytes) -> Result<Printout,
         Command::AuditWide(rows) => Ok(Printout::Whole(audit_widely(alloc, rows, text)?)),
         Command::AuditExact(format) => Ok(Printout::Whole(audit_exactly(alloc, format, text)?)),
         Command::AuditMapped => Ok(Printout::Whole(audit_mapped(alloc, text)?)),
+        Command::AskExact => Ok(Printout::Whole(ask_exactly(alloc, text)?)),
         Command::Faults => Ok(Printout::FaultList(listed_netlist(alloc, text)?)),
         Command::Vectors => Ok(Printout::VectorList(test_vectors(alloc, text)?)),
         Command::Sim(_) => unreachable!(),

@@ -142,7 +142,7 @@ text_refusal_text (TooMany limit) = text_limit_text limit
 
 -- why there is no answer
 abbrev pub refusal_text : Refusal → List ℕ
-refusal_text Usage = codes "usage: tsc synth|audit|faults|vectors|sim|make|join|help"
+refusal_text Usage = codes "usage: tsc synth|ask|audit|faults|vectors|sim|make|join|help"
 refusal_text ReadFault = codes "reading failed"
 refusal_text WriteFault = codes "writing failed"
 refusal_text (Memory error) = codes "out of memory"

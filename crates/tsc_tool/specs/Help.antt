@@ -17,6 +17,7 @@ help_text =
     ++ (help_line (codes "audit wide ROWS")
     ++ (help_line (codes "audit exact blif|kiss|pla")
     ++ (help_line (codes "audit mapped")
+    ++ (help_line (codes "ask exact")
     ++ (help_line (codes "faults")
     ++ (help_line (codes "vectors")
     ++ (help_line (codes "sim none")
@@ -24,4 +25,4 @@ help_text =
     ++ (help_line (codes "sim pin NET INDEX V WHEN")
     ++ (help_line (codes "make NUMBER")
     ++ (help_line (codes "join")
-    ++ help_line (codes "help"))))))))))))))))
+    ++ help_line (codes "help")))))))))))))))))
