@@ -240,7 +240,9 @@ pub fn fixed_note(refusal: &Refusal) -> Option<&'static [u8]>
     ensures none { IsNone result → IsOfText refusal.now }
 {
     match refusal {
-        Refusal::Usage => Some(b"tsc: usage: tsc synth|ask|audit|faults|vectors|sim|make|join|help\n"),
+        Refusal::Usage => Some(
+            b"tsc: usage: tsc synth|ask|audit|faults|vectors|sim|make|join|help\n",
+        ),
         Refusal::ReadFault => Some(b"tsc: reading failed\n"),
         Refusal::WriteFault => Some(b"tsc: writing failed\n"),
         Refusal::Memory(_) => Some(b"tsc: out of memory\n"),
