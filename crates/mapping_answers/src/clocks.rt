@@ -89,7 +89,6 @@ fn has_other_clock(lines: &SectionLines, others: &SectionLines) -> bool
 
 /// Whether some latch of the netlist that the lines begin with and the latch of the mapped one after it at its place have different
 /// clocks.
-#[tactic(auto, using(text_sections::proofs::SectionLemmas::is_section))]
 pub fn lines_have_other_clock(lines: &Lines) -> bool
     ensures other { result ≡ lines_have_other_clock lines.now }
 {
