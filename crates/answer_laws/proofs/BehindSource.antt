@@ -131,7 +131,8 @@ module _ (more : ℕ) (first second : List TextLine) where
   behind : drop (length first) both_lines ≡ moved more second
   behind = drop-append_seam first (moved more second)
 
-  second_lines : lines_from both_lines (length first) ≡ moved more (first_lines second)
+  -- the lines of its section
+  pub second_lines : lines_from both_lines (length first) ≡ moved more (first_lines second)
   second_lines =
       let count = position_or_len (is_end_line BlifEnd) second in
       range_is both_lines (length first) (position_or_len (is_end_line BlifEnd) (drop (length first) both_lines))

@@ -12,7 +12,6 @@ use Rattle.refusals.specs.declared.limit.OwnLimit.{OwnLimit}
 use Rattle.refusals.specs.declared.limit.OwnLimit.TheVariants.{Rows, Pins}
 use Rattle.refusals.specs.declared.refusal.Refusal.{Refusal}
 use Rattle.refusals.specs.declared.text_refusal.TextRefusal.{TextRefusal}
-use Rattle.text_sections.specs.Denoted.{netlist_in}
 use Rattle.text_sections.specs.Refused.{StopsBeyond, text_refusal}
 use Rattle.netlist_answers.specs.Answers.{IsAcceptance, IsFaultList, IsRejection, IsSimulation, IsVectorList}
 use Rattle.netlist_answers.specs.Refused.{audit_refusal, sim_refusal, vectors_refusal}
@@ -21,8 +20,8 @@ use Rattle.wide_answers.specs.WideSections.{wide_refusal}
 use Rattle.exact_answers.specs.ExactReply.{IsExactReply}
 use Rattle.question_answers.specs.QuestionReply.{IsQuestionReply}
 use Rattle.question_answers.specs.Refused.{question_refusal}
-use Rattle.mapping_answers.specs.MappedReply.{HasWideCover, IsMappedReply}
-use Rattle.mapping_answers.specs.MappedSections.{mapped_in, mapped_refusal}
+use Rattle.mapping_answers.specs.MappedReply.{HasWideCoverIn, IsMappedReply}
+use Rattle.mapping_answers.specs.MappedSections.{mapped_refusal}
 use Rattle.joint_answers.specs.JointParts.{join_refusal}
 use Rattle.joint_answers.specs.JointReply.{IsJointReply}
 use Rattle.answers.specs.Answers.{IsBlifSynthesis, IsLooseSynthesis, IsMachineSynthesis}
@@ -64,7 +63,7 @@ spec_of (SynthPla way) = plain (synth_loose_refusal way) (IsLooseSynthesis way)
 spec_of (Audit format) = judged (audit_refusal format) (IsAuditReply format)
 spec_of (AuditWide rows) = within (Rows rows) (NeedsMoreRows rows) (judged wide_refusal (λ ending. IsWideReply ending rows))
 spec_of (AuditExact format) = judged (audit_refusal format) (λ ending. IsExactReply ending format)
-spec_of AuditMapped = within Pins (λ text. HasWideCover (netlist_in text) (mapped_in text)) (judged mapped_refusal IsMappedReply)
+spec_of AuditMapped = within Pins HasWideCoverIn (judged mapped_refusal IsMappedReply)
 spec_of AskExact = judged question_refusal IsQuestionReply
 spec_of Faults = plain (text_refusal AnyPlan) IsFaultList
 spec_of Vectors = plain vectors_refusal IsVectorList

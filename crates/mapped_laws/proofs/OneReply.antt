@@ -1,11 +1,11 @@
 -- The answers of `audit mapped` to a text that nothing refuses.
-use Rattle.std.proofs.Common.{◌≡◌, ℕ, Bool, true, false, if◌then◌else◌, nat_lt, List, length, Option, None, Some, refl, sym, ap, ◌∙◌}
+use Rattle.std.proofs.Common.{◌≡◌, ◌⊎◌, ℕ, Bool, true, false, if◌then◌else◌, nat_lt, List, length, Option, None, Some, inl, inr, refl, sym, ap, subst, ◌∙◌}
 use Rattle.std.specs.Option.{unwrap_or}
 use Rattle.tsc_text.specs.Bytes.{bad_line}
 use Rattle.tsc_text.specs.Lines.{lines_of}
 use Rattle.tsc_text.specs.TextLine.{TextLine}
 use Rattle.fault_secure.specs.CodePlan.{CodePlan}
-use Rattle.tsc_net.specs.NetlistOf.{NetlistOf, IsBuilt}
+use Rattle.tsc_net.specs.NetlistOf.{NetlistOf, IsBuilt, named_of}
 use Rattle.blif_read.specs.Denotes.{plan_text, plan_at, refusal, refusal_of_plan}
 use Rattle.blif_read.specs.PlanText.{plan_with}
 use Rattle.blif_read.specs.Refusal.{netlist_refusal}
@@ -14,7 +14,7 @@ use Rattle.mapping_laws.specs.Mapping.{moved_plan}
 use Rattle.mapping_reading.specs.Pins.{at_of}
 use Rattle.mapping_reading.specs.NamedMapping.{moved_by_name}
 use Rattle.mapping_audit.specs.declared.reason.MappedReason.{MappedReason}
-use Rattle.mapping_audit.specs.declared.reason.MappedReason.TheVariants.{Inputs}
+use Rattle.mapping_audit.specs.declared.reason.MappedReason.TheVariants.{Inputs, Latches, Outputs, Net, NoBlock, NoPin, NoCover}
 use Rattle.mapping_audit.specs.declared.answer.MappedAnswer.{MappedAnswer}
 use Rattle.mapping_audit.specs.declared.answer.MappedAnswer.TheVariants.{Yes, No, Wide}
 use Rattle.mapping_audit.proofs.Determined.{one_answer}
@@ -24,7 +24,8 @@ use Rattle.refusals.specs.declared.text_refusal.TextRefusal.TheVariants.{NoNetli
 use Rattle.text_sections.specs.Denoted.{first_lines, first_section, lines_from, netlist_in, no_plan, plan_in}
 use Rattle.text_sections.specs.Refused.{behind_refusal, byte_refusal, first_refusal, last_refusal}
 use Rattle.text_sections.proofs.SectionLemmas.{first_allowed, none_first, none_later, section_allowed}
-use Rattle.mapping_answers.specs.MappedReply.{IsReplyOn, HasWideCover}
+use Rattle.mapping_answers.specs.MappedClocks.{text_has_other_clock}
+use Rattle.mapping_answers.specs.MappedReply.{HasWideCover, IsClockReason, IsClockedAnswer, IsReplyOn, IsYes}
 use Rattle.mapping_answers.specs.MappedSections.{mapped_in, mapped_lines_refusal, mapped_refusal}
 use Rattle.mapping_answers.specs.MappedText.{no_text}
 use Rattle.mapped_laws.specs.MappedLaws.{ArePutInto}
@@ -84,25 +85,60 @@ yes_or_wide node e = cc
 no_or_wide : (reason : MappedReason) (node : ℕ) → No reason ≡ Wide node → ⊥
 no_or_wide reason node e = cc
 
+-- a reason where some latch has another clock: the inputs differ, or the latches do
+abbrev OneOfTwo : NetlistOf → NetlistOf → MappedReason → Type 0
+OneOfTwo N G reason =
+    ((reason ≡ Inputs) × ((named_of N).inputs ≡ (named_of G).inputs → ⊥)) ⊎ ((reason ≡ Latches) × ((named_of N).inputs ≡ (named_of G).inputs))
+
+one_of_two : (N G : NetlistOf) (reason : MappedReason) → IsClockReason N G reason → OneOfTwo N G reason
+one_of_two N G Inputs is = inl (refl, is)
+one_of_two N G Latches is = inr (refl, is)
+one_of_two N G Outputs is = absurd is
+one_of_two N G (Net node) is = absurd is
+one_of_two N G (NoBlock gate) is = absurd is
+one_of_two N G (NoPin gate pin) is = absurd is
+one_of_two N G (NoCover node value width) is = absurd is
+
+one_reason : (N G : NetlistOf) (a b : MappedReason) → OneOfTwo N G a → OneOfTwo N G b → a ≡ b
+one_reason N G a b (inl one) (inl other) = one.0 ∙ sym other.0
+one_reason N G a b (inl one) (inr other) = absurd (one.1 other.1)
+one_reason N G a b (inr one) (inl other) = absurd (other.1 one.1)
+one_reason N G a b (inr one) (inr other) = one.0 ∙ sym other.0
+
 module _ (N G : NetlistOf) (first : IsBuilt N) (second : IsBuilt G) where
   abbrev Replies : Ending → Ending → List ℕ → List ℕ → Type 0
   Replies ending another answer other = (ending ≡ another) × (answer ≡ other)
 
-  one_reply : (ending another : Ending) (answer other : List ℕ) → IsReplyOn ending N G answer → IsReplyOn another N G other
+  one_clocked : (clocks : Bool) (a b : MappedAnswer) → IsClockedAnswer clocks N G a → IsClockedAnswer clocks N G b → a ≡ b
+  one_clocked false a b is also = one_answer N G a b first second is also
+  one_clocked true Yes b is also = absurd is
+  one_clocked true (Wide node) b is also = absurd is
+  one_clocked true (No reason) Yes is also = absurd also
+  one_clocked true (No reason) (Wide node) is also = absurd also
+  one_clocked true (No reason) (No other) is also =
+      ap (λ r. No r) (one_reason N G reason other (one_of_two N G reason is) (one_of_two N G other also))
+
+  -- a yes is the answer Yes
+  yes_clocked : (clocks : Bool) (answer : List ℕ) → IsYes clocks N G answer → IsClockedAnswer clocks N G Yes
+  yes_clocked clocks answer accepted =
+      let P : Bool → Type 0 = λ c. IsClockedAnswer c N G Yes in subst P (sym accepted.clocks) (accepted.mapping.names, accepted.mapping.reads)
+
+  one_reply : (clocks : Bool) (ending another : Ending) (answer other : List ℕ) → IsReplyOn clocks ending N G answer → IsReplyOn clocks another N G other
       → Replies ending another answer other
-  one_reply Finished Finished answer other accepted also = (refl, accepted.written ∙ sym also.written)
-  one_reply Finished Rejected answer other accepted rejected =
-      absurd (yes_or_no rejected.reason (one_answer N G Yes (No rejected.reason) first second (accepted.mapping.names, accepted.mapping.reads) rejected.first))
-  one_reply Rejected Finished answer other rejected accepted =
-      absurd (yes_or_no rejected.reason (one_answer N G Yes (No rejected.reason) first second (accepted.mapping.names, accepted.mapping.reads) rejected.first))
-  one_reply Rejected Rejected answer other rejected also =
-      let e : No rejected.reason ≡ No also.reason = one_answer N G (No rejected.reason) (No also.reason) first second rejected.first also.first in
+  one_reply clocks Finished Finished answer other accepted also = (refl, accepted.written ∙ sym also.written)
+  one_reply clocks Finished Rejected answer other accepted rejected =
+      absurd (yes_or_no rejected.reason (one_clocked clocks Yes (No rejected.reason) (yes_clocked clocks answer accepted) rejected.first))
+  one_reply clocks Rejected Finished answer other rejected accepted =
+      absurd (yes_or_no rejected.reason (one_clocked clocks Yes (No rejected.reason) (yes_clocked clocks other accepted) rejected.first))
+  one_reply clocks Rejected Rejected answer other rejected also =
+      let e : No rejected.reason ≡ No also.reason = one_clocked clocks (No rejected.reason) (No also.reason) rejected.first also.first in
       (refl, rejected.written ∙ ap (λ a. no_text N G (reason_in a)) e ∙ sym also.written)
 
-  no_limit : (ending : Ending) (answer : List ℕ) → IsReplyOn ending N G answer → HasWideCover N G → ⊥
-  no_limit Finished answer accepted wide =
-      yes_or_wide wide.0 (one_answer N G Yes (Wide wide.0) first second (accepted.mapping.names, accepted.mapping.reads) wide.1)
-  no_limit Rejected answer rejected wide = no_or_wide rejected.reason wide.0 (one_answer N G (No rejected.reason) (Wide wide.0) first second rejected.first wide.1)
+  no_limit : (clocks : Bool) (ending : Ending) (answer : List ℕ) → IsReplyOn clocks ending N G answer → HasWideCover clocks N G → ⊥
+  no_limit clocks Finished answer accepted wide =
+      yes_or_wide wide.0 (one_clocked clocks Yes (Wide wide.0) (yes_clocked clocks answer accepted) wide.1)
+  no_limit clocks Rejected answer rejected wide =
+      no_or_wide rejected.reason wide.0 (one_clocked clocks (No rejected.reason) (Wide wide.0) rejected.first wide.1)
 
 -- a text that `audit mapped` doesn't refuse has at most one reply, and none where a cover is too wide
 pub mapped_replies_are_determined : MappedRepliesAreDetermined
@@ -112,8 +148,8 @@ mapped_replies_are_determined text allowed =
     let first = plain_is_built text allowed in
     let second = mapped_is_built text allowed in
     record {
-      one = one_reply N G first second;
-      no_limit = no_limit N G first second;
+      one = one_reply N G first second (text_has_other_clock text);
+      no_limit = no_limit N G first second (text_has_other_clock text);
     }
 
 -- ---- plan lines of the text

@@ -11,7 +11,7 @@ use Rattle.mapping_reading.specs.ReadMapping.{some_block}
 use Rattle.mapping_reading.specs.ReadMappingLaws.{IsSecureInAll}
 use Rattle.refusals.specs.declared.ending.Ending.{Ending}
 use Rattle.text_sections.specs.Denoted.{first_lines, first_section, lines_from, netlist_in, plan_from, plan_in}
-use Rattle.mapping_answers.specs.MappedReply.{HasWideCover, IsMappedReply, IsMappingOf}
+use Rattle.mapping_answers.specs.MappedReply.{HasWideCoverIn, IsMappedReply, IsMappingOf}
 use Rattle.mapping_answers.specs.MappedSections.{mapped_in, mapped_refusal}
 use Rattle.mapped_laws.specs.MappedLaws.{plan_words}
 
@@ -19,7 +19,7 @@ use Rattle.mapped_laws.specs.MappedLaws.{plan_words}
 pub record HasOneReply (text : List ℕ) : Type 0 where
   pub one : (ending another : Ending) (answer other : List ℕ) → IsMappedReply ending text answer → IsMappedReply another text other
       → (ending ≡ another) × (answer ≡ other)
-  pub no_limit : (ending : Ending) (answer : List ℕ) → IsMappedReply ending text answer → HasWideCover (netlist_in text) (mapped_in text) → ⊥
+  pub no_limit : (ending : Ending) (answer : List ℕ) → IsMappedReply ending text answer → HasWideCoverIn text → ⊥
 
 -- so it is of each text that nothing refuses
 abbrev pub MappedRepliesAreDetermined : Type 0

@@ -1,3 +1,4 @@
 pub mod MappedSections
+pub mod MappedClocks
 pub mod MappedText
 pub mod MappedReply

@@ -1,3 +1,4 @@
 pub mod WholeText
+pub mod OwnClocks
 pub mod OwnMapping
 pub mod MappedTwins

@@ -31,6 +31,7 @@ use Rattle.text_sections.specs.Refused.{behind_refusal, byte_refusal, last_refus
 use Rattle.text_sections.proofs.AnyPlans.{any_first}
 use Rattle.text_sections.proofs.LimitLemmas.{few_latches}
 use Rattle.text_sections.proofs.SectionLemmas.{allowed_both, none_first, none_later, section_allowed}
+use Rattle.mapping_answers.specs.MappedClocks.{has_other_clock, lines_have_other_clock, text_has_other_clock}
 use Rattle.mapping_answers.specs.MappedReply.{IsMappingOf, IsYes}
 use Rattle.mapping_answers.specs.MappedSections.{mapped_in, mapped_net, mapped_refusal}
 use Rattle.mapping_answers.specs.MappedText.{yes_text}
@@ -41,8 +42,9 @@ use Rattle.mapped_laws.proofs.BuiltNetlists.{section_is_built}
 use Rattle.mapped_laws.proofs.OneReply.{mapped_replies_are_determined}
 use Rattle.mapped_laws.proofs.OwnAnswer.{netlists_are_mapped_to_themselves}
 use Rattle.mapped_laws.proofs.PassedOver.{plan_lines_may_be_passed_over}
-use Rattle.answer_laws.proofs.BehindSource.{allowed_in_a_row, lines_in_a_row, lines_kept, netlist_allowed, next_kept, second_net}
+use Rattle.answer_laws.proofs.BehindSource.{allowed_in_a_row, lines_in_a_row, lines_kept, netlist_allowed, next_kept, second_lines, second_net}
 use Rattle.own_mapping_laws.specs.OwnMappings.{AnswersAreTheirOwnMappings, IsItsOwnMapping, LooseAnswersAreTheirOwnMappings, MachineAnswersAreTheirOwnMappings}
+use Rattle.own_mapping_laws.proofs.OwnClocks.{clocks_moved, own_clocks}
 use Rattle.own_mapping_laws.proofs.WholeText.{body_complete, body_fed, end_within, ended_body}
 
 -- ---- parts
@@ -173,12 +175,22 @@ module _ (answer : List ℕ) (readable : text_refusal Netlist answer ≡ None) (
   same_second : mapped_in (answer ++ answer) ≡ N
   same_second = ap mapped_net joined_lines ∙ (ap (net_from joined) next ∙ second_net more lines lines)
 
+  -- and so are the clocks of both
+  same_clocks : text_has_other_clock (answer ++ answer) ≡ false
+  same_clocks =
+      ap lines_have_other_clock joined_lines
+      ∙ (ap (λ ls. has_other_clock ls (lines_from joined (first_section joined).next)) kept
+      ∙ (ap (λ n. has_other_clock (first_lines lines) (lines_from joined n)) next
+      ∙ (ap (has_other_clock (first_lines lines)) (second_lines more lines lines)
+      ∙ (clocks_moved more (first_lines lines) (first_lines lines) ∙ own_clocks (first_lines lines)))))
+
   yes : IsAnswer AuditMapped (answer ++ answer) yes_text
   yes =
-      let A : NetlistOf → Type 0 = λ n. IsYes n (mapped_in (answer ++ answer)) yes_text in
-      let B : NetlistOf → Type 0 = λ g. IsYes N g yes_text in
-      let made : IsYes N N yes_text = record { mapping = own_mapping N built; written = refl } in
-      subst A (sym same_first) (subst B (sym same_second) made)
+      let A : NetlistOf → Type 0 = λ n. IsYes false n (mapped_in (answer ++ answer)) yes_text in
+      let B : NetlistOf → Type 0 = λ g. IsYes false N g yes_text in
+      let C : Bool → Type 0 = λ c. IsYes c (netlist_in (answer ++ answer)) (mapped_in (answer ++ answer)) yes_text in
+      let made : IsYes false N N yes_text = record { clocks = refl; mapping = own_mapping N built; written = refl } in
+      subst C (sym same_clocks) (subst A (sym same_first) (subst B (sym same_second) made))
 
   one : HasOneReply (answer ++ answer)
   one = mapped_replies_are_determined (answer ++ answer) allowed

@@ -6,7 +6,7 @@ use crate::texts::{AND2, SAFE_AND2, SAFE_ONE, TOGGLE, WATCHED_HELD, WATCHED_TICK
 use std::test::Fail;
 
 /// Netlists and mapped ones: a change of the mapped one for each answer.
-static ANSWERS: [Audit; 26] = [
+static ANSWERS: [Audit; 34] = [
     // Itself.
     (b"audit mapped", SAFE_AND2, SAFE_AND2, 0, b"yes\n"),
     // A machine's netlist, itself: its plan lines are passed over.
@@ -18,6 +18,68 @@ static ANSWERS: [Audit; 26] = [
         b"audit mapped",
         WATCHED_TICKED,
         b".model ex\n.inputs clk a b\n.outputs y z t0_19 t0_23\n#tsc 1 parity\n#tsc group y t0_5\n#tsc group z t0_6\n#tsc watch p q t0_8\n.latch n1 p re clk 0\n.latch p q re clk 1\n.latch n1 t0_0 re clk 0\n.latch t0_0 t0_1 re clk 1\n.names a q n1\n11 1\n.names p b y\n1- 1\n-1 1\n.names q z\n0 1\n.names a t0_1 t0_2\n11 1\n.names t0_0 b t0_3\n1- 1\n-1 1\n.names t0_1 t0_4\n0 1\n.names t0_3 t0_5\n0 1\n.names t0_4 t0_6\n0 1\n.names t0_0 t0_1 t0_7\n10 1\n01 1\n.names t0_7 t0_8\n0 1\n.names y z t0_9\n11 1\n.names t0_5 t0_6 t0_10\n11 1\n.names t0_9 t0_10 t0_11\n1- 1\n-1 1\n.names p q t0_12\n10 1\n01 1\n.names t0_11 t0_12 t0_13\n11 1\n.names y t0_6 t0_14\n11 1\n.names t0_5 z t0_15\n11 1\n.names t0_14 t0_15 t0_16\n1- 1\n-1 1\n.names t0_16 t0_8 t0_17\n11 1\n.names t0_13 t0_17 t0_18\n1- 1\n-1 1\n.names t0_18 t0_19\n1 1\n.names t0_11 t0_8 t0_20\n11 1\n.names t0_16 t0_12 t0_21\n11 1\n.names t0_20 t0_21 t0_22\n1- 1\n-1 1\n.names t0_22 t0_23\n1 1\n.end\n",
+        1,
+        b"no latches\n",
+    ),
+    // The same clocks, without plan lines.
+    (
+        b"audit mapped",
+        b".model d\n.inputs clk a\n.outputs y r s\n#tsc 1 parity\n#tsc group y p\n.latch a y re clk 0\n.latch a q re clk 0\n.names q p\n0 1\n.names y r\n1 1\n.names p s\n1 1\n.end\n",
+        b".model d\n.inputs clk a\n.outputs y r s\n.latch a y re clk 0\n.latch a q re clk 0\n.names q p\n0 1\n.names y r\n1 1\n.names p s\n1 1\n.end\n",
+        0,
+        b"yes\n",
+    ),
+    // One latch at the other edge.
+    (
+        b"audit mapped",
+        b".model d\n.inputs clk a\n.outputs y r s\n#tsc 1 parity\n#tsc group y p\n.latch a y re clk 0\n.latch a q re clk 0\n.names q p\n0 1\n.names y r\n1 1\n.names p s\n1 1\n.end\n",
+        b".model d\n.inputs clk a\n.outputs y r s\n.latch a y re clk 0\n.latch a q fe clk 0\n.names q p\n0 1\n.names y r\n1 1\n.names p s\n1 1\n.end\n",
+        1,
+        b"no latches\n",
+    ),
+    // One latch by another net.
+    (
+        b"audit mapped",
+        b".model d\n.inputs clk a\n.outputs y r s\n#tsc 1 parity\n#tsc group y p\n.latch a y re clk 0\n.latch a q re clk 0\n.names q p\n0 1\n.names y r\n1 1\n.names p s\n1 1\n.end\n",
+        b".model d\n.inputs clk a\n.outputs y r s\n.latch a y re a 0\n.latch a q re clk 0\n.names q p\n0 1\n.names y r\n1 1\n.names p s\n1 1\n.end\n",
+        1,
+        b"no latches\n",
+    ),
+    // A mapped netlist without clocks, and one with a clock at one latch, the other one's.
+    (
+        b"audit mapped",
+        b".model d\n.inputs clk a\n.outputs y r s\n#tsc 1 parity\n#tsc group y p\n.latch a y re clk 0\n.latch a q re clk 0\n.names q p\n0 1\n.names y r\n1 1\n.names p s\n1 1\n.end\n",
+        b".model d\n.inputs clk a\n.outputs y r s\n.latch a y 0\n.latch a q 0\n.names q p\n0 1\n.names y r\n1 1\n.names p s\n1 1\n.end\n",
+        0,
+        b"yes\n",
+    ),
+    (
+        b"audit mapped",
+        b".model d\n.inputs clk a\n.outputs y r s\n#tsc 1 parity\n#tsc group y p\n.latch a y re clk 0\n.latch a q re clk 0\n.names q p\n0 1\n.names y r\n1 1\n.names p s\n1 1\n.end\n",
+        b".model d\n.inputs clk a\n.outputs y r s\n.latch a y 0\n.latch a q re clk 0\n.names q p\n0 1\n.names y r\n1 1\n.names p s\n1 1\n.end\n",
+        0,
+        b"yes\n",
+    ),
+    // Clocks in the mapped one alone.
+    (
+        b"audit mapped",
+        b".model d\n.inputs clk a\n.outputs y r s\n#tsc 1 parity\n#tsc group y p\n.latch a y 0\n.latch a q 0\n.names q p\n0 1\n.names y r\n1 1\n.names p s\n1 1\n.end\n",
+        b".model d\n.inputs clk a\n.outputs y r s\n.latch a y re clk 0\n.latch a q fe a 0\n.names q p\n0 1\n.names y r\n1 1\n.names p s\n1 1\n.end\n",
+        0,
+        b"yes\n",
+    ),
+    // Another clock comes after other inputs, and before other outputs.
+    (
+        b"audit mapped",
+        b".model d\n.inputs clk a\n.outputs y r s\n#tsc 1 parity\n#tsc group y p\n.latch a y re clk 0\n.latch a q re clk 0\n.names q p\n0 1\n.names y r\n1 1\n.names p s\n1 1\n.end\n",
+        b".model d\n.inputs a clk\n.outputs y r s\n.latch a y re clk 0\n.latch a q fe clk 0\n.names q p\n0 1\n.names y r\n1 1\n.names p s\n1 1\n.end\n",
+        1,
+        b"no inputs\n",
+    ),
+    (
+        b"audit mapped",
+        b".model d\n.inputs clk a\n.outputs y r s\n#tsc 1 parity\n#tsc group y p\n.latch a y re clk 0\n.latch a q re clk 0\n.names q p\n0 1\n.names y r\n1 1\n.names p s\n1 1\n.end\n",
+        b".model d\n.inputs clk a\n.outputs y s r\n.latch a y re clk 0\n.latch a q fe clk 0\n.names q p\n0 1\n.names y r\n1 1\n.names p s\n1 1\n.end\n",
         1,
         b"no latches\n",
     ),

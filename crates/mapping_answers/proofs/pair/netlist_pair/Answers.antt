@@ -4,6 +4,7 @@ use Rattle.std.proofs.lemmas.Result.{IfErr-weaker, on_ok_weaker}
 use Rattle.tsc_text.specs.TextLine.{TextLine}
 use Rattle.text_sections.specs.Denoted.{first_net}
 use Rattle.text_sections.specs.Refused.{IsRefusedBy}
+use Rattle.mapping_answers.specs.MappedClocks.{lines_have_other_clock}
 use Rattle.mapping_answers.specs.MappedSections.{mapped_lines_refusal, mapped_net, mapped_refusal}
 use Rattle.mapping_answers.proofs.MappedLemmas.{allowed_lines, refused_lines}
 use Rattle.mapping_answers.proofs.pair.netlist_pair.Goals as goal
@@ -17,6 +18,11 @@ pub returns-clause-mapped : goal.returns-clause-mapped
 returns-clause-mapped c =
     let P : List TextLine → Type 0 = λ l. IfOk c.pair_of.result (λ pair. pair.mapped ≡ mapped_net l) in
     subst P c.in_ok-lines.ensures.lines c.pair_of.ensures.mapped
+
+pub returns-clause-clocks : goal.returns-clause-clocks
+returns-clause-clocks c =
+    let P : List TextLine → Type 0 = λ l. IfOk c.pair_of.result (λ pair. pair.other_clock ≡ lines_have_other_clock l) in
+    subst P c.in_ok-lines.ensures.lines c.pair_of.ensures.clocks
 
 pub returns-clause-allowed : goal.returns-clause-allowed
 returns-clause-allowed c =
