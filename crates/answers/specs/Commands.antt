@@ -20,7 +20,7 @@ use Rattle.wide_answers.specs.WideReply.{IsWideReply, NeedsMoreRows}
 use Rattle.wide_answers.specs.WideSections.{wide_refusal}
 use Rattle.exact_answers.specs.ExactReply.{IsExactReply}
 use Rattle.question_answers.specs.QuestionReply.{IsQuestionReply}
-use Rattle.question_answers.specs.QuestionSections.{question_refusal}
+use Rattle.question_answers.specs.Refused.{question_refusal}
 use Rattle.mapping_answers.specs.MappedReply.{HasWideCover, IsMappedReply}
 use Rattle.mapping_answers.specs.MappedSections.{mapped_in, mapped_refusal}
 use Rattle.joint_answers.specs.JointParts.{join_refusal}

@@ -8,7 +8,7 @@ use Rattle.commands.specs.declared.request.Request.{Request}
 use Rattle.commands.specs.declared.request.Request.TheVariants.{Read, Make, Help}
 use Rattle.commands.specs.declared.source_format.SourceFormat.TheVariants.{Blif, Kiss, Pla}
 use Rattle.commands.specs.SimWords.{sim_fault}
-use Rattle.commands.specs.Words.{format_named, is_ask, is_audit, is_audit_exact, is_audit_wide, is_faults, is_help, is_join, is_make, is_synth, is_vectors, machine_code_named, rows_named, way_named, word_at}
+use Rattle.commands.specs.Words.{are_two, begin_so, format_named, is_make, is_only, machine_code_named, rows_named, way_named, word_at}
 
 -- the synthesis of a BLIF source that a word names: `watched`, or a way
 abbrev pub blif_synthesis_named : List ℕ → Option Command
@@ -17,24 +17,24 @@ blif_synthesis_named word = if bytes_eq word (codes "watched") then Some SynthWa
 -- the command on a text that the words ask for, if they ask for one
 abbrev pub command_named : List (List ℕ) → Option Command
 command_named words =
-    if is_synth words (codes "blif") then blif_synthesis_named (word_at words 2)
-    else if is_synth words (codes "kiss") then option_map SynthKiss (machine_code_named (word_at words 2))
-    else if is_synth words (codes "pla") then option_map SynthPla (way_named (word_at words 2))
-    else if is_audit words (codes "blif") then Some (Audit Blif)
-    else if is_audit words (codes "kiss") then Some (Audit Kiss)
-    else if is_audit words (codes "pla") then Some (Audit Pla)
-    else if is_audit_wide words then option_map AuditWide (rows_named (word_at words 2))
-    else if is_audit_exact words then option_map AuditExact (format_named (word_at words 2))
-    else if is_audit words (codes "mapped") then Some AuditMapped
-    else if is_ask words (codes "exact") then Some AskExact
-    else if is_faults words then Some Faults
-    else if is_vectors words then Some Vectors
-    else if is_join words then Some Join
+    if begin_so words (codes "synth") (codes "blif") then blif_synthesis_named (word_at words 2)
+    else if begin_so words (codes "synth") (codes "kiss") then option_map SynthKiss (machine_code_named (word_at words 2))
+    else if begin_so words (codes "synth") (codes "pla") then option_map SynthPla (way_named (word_at words 2))
+    else if are_two words (codes "audit") (codes "blif") then Some (Audit Blif)
+    else if are_two words (codes "audit") (codes "kiss") then Some (Audit Kiss)
+    else if are_two words (codes "audit") (codes "pla") then Some (Audit Pla)
+    else if begin_so words (codes "audit") (codes "wide") then option_map AuditWide (rows_named (word_at words 2))
+    else if begin_so words (codes "audit") (codes "exact") then option_map AuditExact (format_named (word_at words 2))
+    else if are_two words (codes "audit") (codes "mapped") then Some AuditMapped
+    else if are_two words (codes "ask") (codes "exact") then Some AskExact
+    else if is_only words (codes "faults") then Some Faults
+    else if is_only words (codes "vectors") then Some Vectors
+    else if is_only words (codes "join") then Some Join
     else option_map Sim (sim_fault words)
 
 -- what the words ask for, if they have a meaning
 abbrev pub meaning : List (List ℕ) → Option Request
 meaning words =
-    if is_help words then Some Help
+    if is_only words (codes "help") then Some Help
     else if is_make words then option_map Make (number_of (word_at words 1))
     else option_map Read (command_named words)

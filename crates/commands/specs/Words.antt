@@ -19,17 +19,17 @@ word_at words place = slice_index_or words place []
 abbrev pub word_is : List (List ℕ) → ℕ → List ℕ → Bool
 word_is words place text = bytes_eq (word_at words place) text
 
--- there are three words, and the first are `synth` and this
-abbrev pub is_synth : List (List ℕ) → List ℕ → Bool
-is_synth words format = length words == 3 && (word_is words 0 (codes "synth") && word_is words 1 format)
+-- the word is this
+abbrev pub is_only : List (List ℕ) → List ℕ → Bool
+is_only words first = length words == 1 && word_is words 0 first
 
--- the words are `audit` and this
-abbrev pub is_audit : List (List ℕ) → List ℕ → Bool
-is_audit words judged = length words == 2 && (word_is words 0 (codes "audit") && word_is words 1 judged)
+-- the words are these two
+abbrev pub are_two : List (List ℕ) → List ℕ → List ℕ → Bool
+are_two words first second = length words == 2 && (word_is words 0 first && word_is words 1 second)
 
--- the words are `ask` and this
-abbrev pub is_ask : List (List ℕ) → List ℕ → Bool
-is_ask words asked = length words == 2 && (word_is words 0 (codes "ask") && word_is words 1 asked)
+-- there are three words, and the first are these two
+abbrev pub begin_so : List (List ℕ) → List ℕ → List ℕ → Bool
+begin_so words first second = length words == 3 && (word_is words 0 first && word_is words 1 second)
 
 -- the way of synthesis that a word names
 abbrev pub way_named : List ℕ → Option Way
@@ -40,10 +40,6 @@ way_named word =
     else if bytes_eq word (codes "mofn") then Some way.MOutOfN
     else None
 
--- there are three words, and the first are `audit` and `wide`
-abbrev pub is_audit_wide : List (List ℕ) → Bool
-is_audit_wide words = length words == 3 && (word_is words 0 (codes "audit") && word_is words 1 (codes "wide"))
-
 -- a number of rows that a wide audit may use: from 2 to 4,194,304
 abbrev pub within_rows : ℕ → Option ℕ
 within_rows rows = if nat_le 2 rows && nat_le rows 4194304 then Some rows else None
@@ -52,10 +48,6 @@ within_rows rows = if nat_le 2 rows && nat_le rows 4194304 then Some rows else N
 abbrev pub rows_named : List ℕ → Option ℕ
 rows_named word = option_and_then within_rows (number_of word)
 
--- there are three words, and the first are `audit` and `exact`
-abbrev pub is_audit_exact : List (List ℕ) → Bool
-is_audit_exact words = length words == 3 && (word_is words 0 (codes "audit") && word_is words 1 (codes "exact"))
-
 -- the format of a source that a word names
 abbrev pub format_named : List ℕ → Option SourceFormat
 format_named word =
@@ -63,22 +55,6 @@ format_named word =
     else if bytes_eq word (codes "kiss") then Some Kiss
     else if bytes_eq word (codes "pla") then Some Pla
     else None
-
--- the word is `faults`
-abbrev pub is_faults : List (List ℕ) → Bool
-is_faults words = length words == 1 && word_is words 0 (codes "faults")
-
--- the word is `vectors`
-abbrev pub is_vectors : List (List ℕ) → Bool
-is_vectors words = length words == 1 && word_is words 0 (codes "vectors")
-
--- the word is `join`
-abbrev pub is_join : List (List ℕ) → Bool
-is_join words = length words == 1 && word_is words 0 (codes "join")
-
--- the word is `help`
-abbrev pub is_help : List (List ℕ) → Bool
-is_help words = length words == 1 && word_is words 0 (codes "help")
 
 -- there are two words, and the first is `make`
 abbrev pub is_make : List (List ℕ) → Bool

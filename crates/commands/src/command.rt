@@ -2,7 +2,7 @@
 ghost use Rattle.std.specs.Prelude.{◌≡◌, ◌<◌, length, option_map, true, IfErr, IfOk};
 ghost use Rattle.commands.specs.Meaning.{blif_synthesis_named, command_named};
 ghost use Rattle.commands.specs.SimWords.{has_fault_form, sim_fault};
-ghost use Rattle.commands.specs.Words.{format_named, is_ask, is_audit, is_audit_exact, is_audit_wide, is_faults, is_join, is_synth, is_vectors, machine_code_named, rows_named, way_named, word_at, word_is};
+ghost use Rattle.commands.specs.Words.{are_two, begin_so, format_named, is_only, machine_code_named, rows_named, way_named, word_at, word_is};
 
 use crate::machine_code::MachineCode;
 use crate::row_count::{RowCount, rows_named};
@@ -51,31 +51,31 @@ pub fn command_of(alloc: Global, words: &Words) -> Result<Option<Command>, Alloc
     ensures command { IfOk result (λ command. command ≡ command_named words.now) }
     ensures memory { IfErr result (λ error. has_fault_form words.now ≡ true) }
 {
-    if is_synth(words, b"blif") {
+    if begin_so(words, b"synth", b"blif") {
         Ok(blif_synthesis_named(word_at(words, 2)))
-    } else if is_synth(words, b"kiss") {
+    } else if begin_so(words, b"synth", b"kiss") {
         Ok(machine_code_named(word_at(words, 2)).map(Command::SynthKiss))
-    } else if is_synth(words, b"pla") {
+    } else if begin_so(words, b"synth", b"pla") {
         Ok(way_named(word_at(words, 2)).map(Command::SynthPla))
-    } else if is_audit(words, b"blif") {
+    } else if are_two(words, b"audit", b"blif") {
         Ok(Some(Command::Audit(SourceFormat::Blif)))
-    } else if is_audit(words, b"kiss") {
+    } else if are_two(words, b"audit", b"kiss") {
         Ok(Some(Command::Audit(SourceFormat::Kiss)))
-    } else if is_audit(words, b"pla") {
+    } else if are_two(words, b"audit", b"pla") {
         Ok(Some(Command::Audit(SourceFormat::Pla)))
-    } else if is_audit_wide(words) {
+    } else if begin_so(words, b"audit", b"wide") {
         Ok(rows_named(word_at(words, 2)).map(Command::AuditWide))
-    } else if is_audit_exact(words) {
+    } else if begin_so(words, b"audit", b"exact") {
         Ok(format_named(word_at(words, 2)).map(Command::AuditExact))
-    } else if is_audit(words, b"mapped") {
+    } else if are_two(words, b"audit", b"mapped") {
         Ok(Some(Command::AuditMapped))
-    } else if is_ask(words, b"exact") {
+    } else if are_two(words, b"ask", b"exact") {
         Ok(Some(Command::AskExact))
-    } else if is_faults(words) {
+    } else if is_only(words, b"faults") {
         Ok(Some(Command::Faults))
-    } else if is_vectors(words) {
+    } else if is_only(words, b"vectors") {
         Ok(Some(Command::Vectors))
-    } else if is_join(words) {
+    } else if is_only(words, b"join") {
         Ok(Some(Command::Join))
     } else {
         sim_of(alloc, words)
@@ -146,63 +146,26 @@ fn sim_of(alloc: Global, words: &Words) -> Result<Option<Command>, AllocError>
     Ok(sim_fault(alloc, words)?.map(Command::Sim))
 }
 
-/// Whether there are three words, and the first are `synth` and this.
-fn is_synth(words: &Words, format: &[u8]) -> bool
-    ensures same { result ≡ is_synth words.now format.now }
+/// Whether the word is this.
+pub(crate) fn is_only(words: &Words, first: &[u8]) -> bool
+    ensures same { result ≡ is_only words.now first.now }
+{
+    words.len() == 1 && word_is(words, 0, first)
+}
+
+/// Whether the words are these two.
+fn are_two(words: &Words, first: &[u8], second: &[u8]) -> bool
+    ensures same { result ≡ are_two words.now first.now second.now }
+{
+    words.len() == 2 && word_is(words, 0, first) && word_is(words, 1, second)
+}
+
+/// Whether there are three words, and the first are these two.
+fn begin_so(words: &Words, first: &[u8], second: &[u8]) -> bool
+    ensures same { result ≡ begin_so words.now first.now second.now }
     ensures count { result ≡ true → length words.now ≡ 3 }
 {
-    words.len() == 3 && word_is(words, 0, b"synth") && word_is(words, 1, format)
-}
-
-/// Whether the words are `audit` and this.
-fn is_audit(words: &Words, judged: &[u8]) -> bool
-    ensures same { result ≡ is_audit words.now judged.now }
-{
-    words.len() == 2 && word_is(words, 0, b"audit") && word_is(words, 1, judged)
-}
-
-/// Whether the words are `ask` and this.
-fn is_ask(words: &Words, asked: &[u8]) -> bool
-    ensures same { result ≡ is_ask words.now asked.now }
-{
-    words.len() == 2 && word_is(words, 0, b"ask") && word_is(words, 1, asked)
-}
-
-/// Whether there are three words, and the first are `audit` and `wide`.
-fn is_audit_wide(words: &Words) -> bool
-    ensures same { result ≡ is_audit_wide words.now }
-    ensures count { result ≡ true → length words.now ≡ 3 }
-{
-    words.len() == 3 && word_is(words, 0, b"audit") && word_is(words, 1, b"wide")
-}
-
-/// Whether there are three words, and the first are `audit` and `exact`.
-fn is_audit_exact(words: &Words) -> bool
-    ensures same { result ≡ is_audit_exact words.now }
-    ensures count { result ≡ true → length words.now ≡ 3 }
-{
-    words.len() == 3 && word_is(words, 0, b"audit") && word_is(words, 1, b"exact")
-}
-
-/// Whether the word is `faults`.
-fn is_faults(words: &Words) -> bool
-    ensures same { result ≡ is_faults words.now }
-{
-    words.len() == 1 && word_is(words, 0, b"faults")
-}
-
-/// Whether the word is `vectors`.
-fn is_vectors(words: &Words) -> bool
-    ensures same { result ≡ is_vectors words.now }
-{
-    words.len() == 1 && word_is(words, 0, b"vectors")
-}
-
-/// Whether the word is `join`.
-fn is_join(words: &Words) -> bool
-    ensures same { result ≡ is_join words.now }
-{
-    words.len() == 1 && word_is(words, 0, b"join")
+    words.len() == 3 && word_is(words, 0, first) && word_is(words, 1, second)
 }
 
 /// The word at `place`, counted from 0.

@@ -3,9 +3,9 @@ ghost use Rattle.std.specs.Prelude.{◌≡◌, ◌<◌, length, option_map, true
 ghost use Rattle.tsc_text.specs.Number.{number_of};
 ghost use Rattle.commands.specs.Meaning.{meaning};
 ghost use Rattle.commands.specs.SimWords.{has_fault_form};
-ghost use Rattle.commands.specs.Words.{is_help, is_make, word_at};
+ghost use Rattle.commands.specs.Words.{is_make, word_at};
 
-use crate::command::{Command, command_of, word_at, word_is};
+use crate::command::{Command, command_of, is_only, word_at, word_is};
 use std::alloc::{AllocError, Global};
 use tsc_io::Words;
 use tsc_text::number;
@@ -30,7 +30,7 @@ pub fn request_of(alloc: Global, words: &Words) -> Result<Option<Request>, Alloc
     ensures meaning { IfOk result (λ request. request ≡ meaning words.now) }
     ensures memory { IfErr result (λ error. has_fault_form words.now ≡ true) }
 {
-    if is_help(words) {
+    if is_only(words, b"help") {
         Ok(Some(Request::Help))
     } else if is_make(words) {
         Ok(make_of(words))
@@ -45,13 +45,6 @@ fn make_of(words: &Words) -> Option<Request>
     ensures request { result ≡ option_map Request.Make (number_of (word_at words.now 1)) }
 {
     number(word_at(words, 1)).map(Request::Make)
-}
-
-/// Whether the word is `help`.
-fn is_help(words: &Words) -> bool
-    ensures same { result ≡ is_help words.now }
-{
-    words.len() == 1 && word_is(words, 0, b"help")
 }
 
 /// Whether there are two words, and the first is `make`.

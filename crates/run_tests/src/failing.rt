@@ -2,7 +2,9 @@
 ghost use Rattle.std.specs.Prelude.{None};
 
 use crate::runs::{Faults, NO_FAULTS, after_reading, after_run, is_ended, joined};
-use crate::texts::{AND2, FOLLOWING, FREE_AT_ONE, HELD, SAFE_AND2, SAFE_WIRE, TOGGLE, TWO_STATES};
+use crate::texts::{
+    AND2, FOLLOWING, FREE_AT_ONE, HELD, SAFE_AND2, SAFE_WIRE, TOGGLE, TWO_STATES, WIRE,
+};
 use std::alloc::{AllocError, Global};
 use std::test::Fail;
 use tsc_io::{Bytes, CallList, Failed, MemSource, Source};
@@ -109,7 +111,7 @@ fn the_sink_is_full(rt: HostRuntime) -> Result<(), Fail> {
 }
 
 /// The words of each command, its text, and what is read after it.
-static COMMANDS: [(&[u8], &[u8], &[u8]); 17] = [
+static COMMANDS: [(&[u8], &[u8], &[u8]); 18] = [
     (b"synth blif berger", AND2, b""),
     (b"synth blif watched", HELD, b""),
     (b"synth kiss mofn", TWO_STATES, b""),
@@ -120,6 +122,7 @@ static COMMANDS: [(&[u8], &[u8], &[u8]); 17] = [
     (b"audit wide 64", AND2, SAFE_AND2),
     (b"audit exact kiss", TWO_STATES, TOGGLE),
     (b"audit mapped", SAFE_AND2, SAFE_AND2),
+    (b"ask exact", WIRE, SAFE_WIRE),
     (b"faults", SAFE_AND2, b""),
     (b"vectors", TOGGLE, b""),
     (b"sim none", SAFE_AND2, b"00\n01\n10\n11\n"),

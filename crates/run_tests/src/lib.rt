@@ -8,6 +8,8 @@
 #[cfg(test)]
 mod accepted;
 #[cfg(test)]
+mod asked;
+#[cfg(test)]
 mod audits;
 #[cfg(test)]
 mod chains;
