@@ -4,11 +4,12 @@
 # The words that may come behind those that are there, `_` where any word may come.
 _tsc_next() {
     case "$*" in
-    '') echo 'synth audit faults vectors sim make join help' ;;
+    '') echo 'synth ask audit faults vectors sim make join help' ;;
     synth) echo 'blif kiss pla' ;;
     'synth blif') echo 'parity berger mofn duplex watched' ;;
     'synth pla') echo 'parity berger mofn duplex' ;;
     'synth kiss') echo 'berger mofn' ;;
+    ask) echo exact ;;
     audit) echo 'blif kiss pla wide exact mapped' ;;
     'audit exact') echo 'blif kiss pla' ;;
     sim) echo 'none stem pin' ;;
