@@ -1,6 +1,6 @@
 -- The nodes that a section denotes, with the rows of their covers, are at most as many as its lines.
-use Rattle.std.proofs.Common.{ℕ, suc, ◌+◌, ◌-◌, ◌≤◌, List, [], ◌∷◌, ◌++◌, map, drop, length, slice_range, arith}
-use Rattle.std.proofs.lemmas.List.{length-map, length-drop, length-take-le}
+use Rattle.std.proofs.Common.{ℕ, suc, ◌+◌, ◌-◌, ◌≤◌, List, [], ◌∷◌, ◌++◌, map, drop, length, slice_range, arith, length-drop, length-take}
+use Rattle.std.proofs.lemmas.List.{length-map}
 use Rattle.tsc_cover.specs.Text.{literals_of_text}
 use Rattle.tsc_text.specs.Section.{section_lines}
 use Rattle.tsc_text.specs.TextLine.{TextLine}
@@ -36,7 +36,7 @@ module _ (driven : List (List ℕ)) where
   sized (line ∷ lines) = by_kind (kind_of line) line lines (sized lines)
 
 range_few : {A : Type 0} (xs : List A) (from to : ℕ) → length (slice_range xs from to) ≤ length xs
-range_few xs from to = omega (arith, length-take-le (to - from) (drop from xs), length-drop from xs)
+range_few xs from to = omega (arith, length-take (to - from) (drop from xs), length-drop from xs)
 
 -- the nodes of a section's netlist are at most as many, with their rows, as all lines
 pub size_from : (lines : List TextLine) (from : ℕ) → size_of (net_from lines from).circuit.nodes ≤ length lines
