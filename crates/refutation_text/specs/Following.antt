@@ -20,11 +20,12 @@ answer_fault number AnswerNoClause = Some (NoClause number)
 answer_fault number TwoLiterals = Some (Hint number)
 answer_fault number AnswerUnfinished = Some (Hint number)
 
--- the fault of an addition, and the state after it
+-- the fault of an addition, if the line is one
 abbrev pub addition_fault : CheckerState → ℕ → Option Addition → Option RefutationFault
 addition_fault state number None = Some (Shape number)
 addition_fault state number (Some a) = answer_fault number (answer_of state a.number a.literals a.hints)
 
+-- the state after an addition without a fault: one clause more
 abbrev pub after_addition : CheckerState → Option Addition → CheckerState
 after_addition state None = state
 after_addition state (Some a) = with_clause state a.number a.literals
@@ -33,30 +34,33 @@ after_addition state (Some a) = with_clause state a.number a.literals
 abbrev pub without_clause : CheckerState → ℕ → CheckerState
 without_clause state number = record state { clauses = without state.clauses number }
 
--- whether the clause of each number is alive once those before it are deleted, and the state without them all
+-- whether the clause of each number is alive once those before it are deleted
 abbrev pub are_alive : CheckerState → List ℕ → Bool
 are_alive state [] = true
 are_alive state (n ∷ ns) = is_some (clause_at state.clauses n) && are_alive (without_clause state n) ns
 
+-- the state without the clauses of these numbers
 abbrev pub without_clauses : CheckerState → List ℕ → CheckerState
 without_clauses state [] = state
 without_clauses state (n ∷ ns) = without_clauses (without_clause state n) ns
 
--- the fault of a deletion, and the state after it
+-- the fault of a deletion, if the line is one
 abbrev pub deletion_fault : CheckerState → ℕ → Option (List ℕ) → Option RefutationFault
 deletion_fault state number None = Some (Shape number)
 deletion_fault state number (Some numbers) = if are_alive state numbers then None else Some (NoClause number)
 
+-- the state after a deletion without a fault
 abbrev pub after_deletion : CheckerState → Option (List ℕ) → CheckerState
 after_deletion state None = state
 after_deletion state (Some numbers) = without_clauses state numbers
 
--- the fault of a line, and the state after it
+-- the fault of a line
 abbrev pub line_fault : CheckerState → TextLine → Option RefutationFault
 line_fault state line =
     if is_remark line then None
     else (if is_deletion line then deletion_fault state line.number (deletions_of line) else addition_fault state line.number (addition_of line))
 
+-- the state after a line without a fault
 abbrev pub after_line : CheckerState → TextLine → CheckerState
 after_line state line =
     if is_remark line then state
