@@ -1,4 +1,4 @@
-use Rattle.std.proofs.Common.{◌≡◌, true, false, None, IsTrue, drop, sym, ◌∙◌, rules, arith}
+use Rattle.std.proofs.Common.{◌≡◌, None, IsTrue, drop, sym, ◌∙◌, rules, arith}
 use Rattle.tsc_text.specs.TextLine.{the_line}
 use Rattle.refutation_text.specs.Following.{line_fault}
 use Rattle.refutation_text.proofs.Steps.{refuted_has_none, line_more}
@@ -17,11 +17,11 @@ returns-then-is_refuted-clause-refuted c =
 pub loop-line-preserved : goal.loop-line-preserved
 loop-line-preserved c =
     let state = c.loop-line.checker in
-    let none : line_fault state (the_line c.args.lines.now c.loop-line.line) ≡ None = cc in
+    let none : line_fault state (the_line c.args.lines.now c.loop-line.line) ≡ None = sym c.in_ok-follow_line.ensures.fault ∙ c.in-None.is in
     record {
       fault = c.loop-line.invariant.fault
           ∙ line_more state c.follow_line.new.checker c.args.lines.now c.loop-line.line (omega arith) (sym c.is_refuted.ensures.refuted ∙ c.if-is_refuted.false) none
-          (c.in_ok-follow_line.ensures.after (c.in_ok-follow_line.ensures.fault ∙ none));
+          (c.in_ok-follow_line.ensures.after c.in-None.is);
       sound = λ formula sound. c.follow_line.ensures.sound formula (c.loop-line.invariant.sound formula sound);
     }
 
