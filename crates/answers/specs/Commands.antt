@@ -41,7 +41,7 @@ pub record CommandSpec : Type 1 where
 abbrev pub plain : (List ℕ → Option TextRefusal) → (List ℕ → List ℕ → Type 0) → CommandSpec
 plain refusal answer = record { refusal = refusal; limit = None; passes = λ text. ⊥; answer = answer; rejection = λ text answer. ⊥ }
 
--- one that judges: its answer ends as a yes or as a no
+-- one that judges or asks: its answer ends as what was asked for or as a no
 abbrev pub judged : (List ℕ → Option TextRefusal) → (Ending → List ℕ → List ℕ → Type 0) → CommandSpec
 judged refusal reply = record { refusal = refusal; limit = None; passes = λ text. ⊥; answer = reply Finished; rejection = reply Rejected }
 
@@ -90,7 +90,7 @@ StopsAt command text refusal = StopsBeyond (own_limit command) (refusal_of comma
 abbrev pub IsAnswer : Command → List ℕ → List ℕ → Type 0
 IsAnswer command = (spec_of command).answer
 
--- the answer of a command to a text, where its verdict is no: an audit's alone
+-- the answer of a command to a text, where it says no: an audit, or `ask`
 abbrev pub IsNo : Command → List ℕ → List ℕ → Type 0
 IsNo command = (spec_of command).rejection
 

@@ -19,9 +19,9 @@ use tsc_io::Bytes;
 use tsc_net::{Netlist, Plan, PlannedNetlist};
 use tsc_text::Lines;
 
-/// The exact question of the netlist after the network that `text` begins with, in DIMACS. It has no model exactly where the netlist
-/// follows the network and each failing cell is heard, at each input. Where the netlist doesn't fit, has a latch, or its plan's code
-/// isn't parity, the first such reason.
+/// The exact question of the netlist after the network that `text` begins with, in DIMACS. It has no model exactly where, at each input,
+/// the netlist follows the network, its rails differ, and each failing cell is heard. Where the netlist doesn't fit, has a latch, or its
+/// plan's code isn't parity, the first such reason.
 ///
 /// # Errors
 ///

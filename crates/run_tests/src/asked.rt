@@ -54,11 +54,11 @@ static QUESTIONS: [Audit; 8] = [
         1,
         b"no shape states\n",
     ),
-    // One listed state, as many as a network has: a latch.
+    // One listed state, as many as a network has: there are latches.
     (
         b"ask exact",
         WIRE,
-        b".model m\n.inputs a\n.outputs a r1 r2\n#tsc 1 berger\n#tsc check p\n#tsc state 1\n.latch l l 1\n.names a p\n0 1\n.names a r1\n1 1\n.names p r2\n1 1\n.end\n",
+        b".model m\n.inputs a\n.outputs a r1 r2\n#tsc 1 berger\n#tsc check p\n#tsc state 01\n.latch l l 0\n.latch k k 1\n.names a p\n0 1\n.names a r1\n1 1\n.names p r2\n1 1\n.end\n",
         1,
         b"no latched\n",
     ),

@@ -179,7 +179,7 @@ pub record IsValid (words : List (List ℕ)) (source : SourceCall) : Type 0 wher
   pub meant : meaning words ≡ Some request
   pub valid : HasValid request source
 
--- a valid input is not refused: where neither the source nor the sink failed, the run is done, an audit's no too, or memory was missing
+-- a valid input is not refused: where neither the source nor the sink failed, the run is done, a no too, or memory was missing
 abbrev pub IsComplete : List (List ℕ) → Devices → Status → Type 0
 IsComplete words devices status =
     IsValid words devices.source
