@@ -60,7 +60,7 @@ impl<'a> StepLines<'a> {
     }
 
     /// Reads the input bits of a step, by its number from 0, into a list of as many bits. It takes no memory.
-    pub(crate) fn read(&self, step: usize, bits: &mut Bits)
+    pub fn read(&self, step: usize, bits: &mut Bits)
         requires step { step < length self.now }
         requires sized { length bits.old ≡ length (slice_index_or self.now step []) }
         ensures bits { bits.new ≡ slice_index_or self.now step [] }
