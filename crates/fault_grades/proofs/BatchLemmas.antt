@@ -1,16 +1,22 @@
 -- Which faults are in a batch, and what is written of them.
-use Rattle.std.proofs.Common.{◌≡◌, ℕ, suc, ◌+◌, ◌<◌, ◌≤◌, ◌⊎◌, Bool, true, false, List, [], ◌∷◌, length, set, take, get_or, refl, sym, ap, subst, ◌∙◌, inl, inr, All, arith}
+use Rattle.std.proofs.Common.{◌≡◌, ℕ, suc, ◌+◌, ◌<◌, ◌≤◌, ◌⊎◌, Bool, true, false, List, [], ◌∷◌, length, set, take, get_or, refl, sym, ap, subst, ◌∙◌, inl, inr, All, arith, add-one}
 use Rattle.std.specs.Prelude.{slice_index, slice_index_or}
 use Rattle.std.proofs.lemmas.Bool.{cases_lt, cases_eq, both_ways}
-use Rattle.std.proofs.lemmas.List.{get_or-set_same, get_or-set_other, get_or-take, length-take-le}
+use Rattle.std.proofs.lemmas.List.{get_or-map, get_or-set_same, get_or-set_other, get_or-take, length-take-le}
 use Rattle.std.proofs.lemmas.List.Elements.{All-get_or, All-from_get_or}
 use Rattle.fault_secure.specs.StuckAt.{StuckAt, NoFault, fault_cell}
+use Rattle.tsc_net.specs.Fault.{stuck_at}
 use Rattle.tsc_net.specs.declared.fault.Fault.{Fault}
 use Rattle.tsc_net.specs.declared.fault.Fault.TheVariants.{Stem as TheStem}
+use Rattle.fault_lanes.specs.Batch.{batch_fault}
 use Rattle.fault_grades.specs.Grade.{grade_as, grade_at, is_left}
 use Rattle.fault_grades.specs.Batch.{kept_fault, IsAmong, IsBatch, Adds, Passes, TakesUp, Takes, Stays, AreWritten}
 use Rattle.fault_grades.specs.declared.grade.Grade.{Grade as Kept}
 use Rattle.fault_grades.specs.declared.grade.Grade.TheVariants.{Unseen as Neither}
+
+-- what stands past the faults of a list
+abbrev pub blank : Fault
+blank = TheStem (record { number = 0 }) false
 
 -- no fault is listed before the first
 pub batch_first : (faults : List StuckAt) (grades : List Kept) (from : ℕ) (places : List ℕ) (listed : List Fault) → length places ≡ 1023 → length listed ≡ 1023 → IsBatch faults grades from 0 from places listed
@@ -137,6 +143,17 @@ written_as slice places marks count old new is few sized written =
     subst (λ (n : ℕ). AreWritten (take count places) marks n old new) (length-batch count places few sized)
     (subst (λ (list : List ℕ). AreWritten list marks (length list) old new) is written)
 
--- what stands past the faults of a list
-abbrev pub blank : Fault
-blank = TheStem (record { number = 0 }) false
+-- ---- the lanes of a batch
+
+-- its faults are at nets
+pub loaded_cells : (faults : List Fault) (count bound : ℕ) → count ≤ length faults → ((at : ℕ) → at < count → fault_cell (kept_fault faults at) < bound) → All (λ fault. fault_cell (stuck_at fault) < bound) (take count faults)
+loaded_cells faults count bound room cells =
+    All-from_get_or (λ (fault : Fault). fault_cell (stuck_at fault) < bound) (take count faults) blank (λ at low.
+    (let below : at < count = (let e = length-take-le count faults room in omega arith) in
+    subst (λ (f : Fault). fault_cell (stuck_at f) < bound) (sym (get_or-take count faults at blank below)) (cells at below)))
+
+-- each lane after lane 0 has its fault
+pub lane_is : (faults : List Fault) (count at : ℕ) → count ≤ length faults → at < count → batch_fault (take count faults) (at + 1) ≡ kept_fault faults at
+lane_is faults count at room below =
+    let inside : at < length (take count faults) = (let e = length-take-le count faults room in omega arith) in
+    ap (batch_fault (take count faults)) (add-one at) ∙ get_or-map stuck_at (take count faults) at blank NoFault inside ∙ ap stuck_at (get_or-take count faults at blank below)

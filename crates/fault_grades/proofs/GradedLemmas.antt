@@ -132,3 +132,7 @@ are_grades N P faults listed xs grades same sized is place inside =
     subst (IsGrade N P (slice_index_or listed place NoFault) xs) (sym (mapped grades place))
     (subst (λ (fs : List StuckAt). IsGrade N P (slice_index_or fs place NoFault) xs (grade_at grades place)) same
     (is place (subst (λ (fs : List StuckAt). place < length fs) (sym same) inside)))
+
+-- the same fault of the same circuit
+pub same_grade : (N N' : Circuit) (P : CodePlan) (f f' : StuckAt) (xs : List (List Bool)) (grade : Grade) → N' ≡ N → f' ≡ f → IsGradeOf N' P f' xs grade → IsGradeOf N P f xs grade
+same_grade N N' P f f' xs grade same_circuit same_fault is = subst₂ (λ (C : Circuit) (g : StuckAt). IsGradeOf C P g xs grade) same_circuit same_fault is

@@ -4,3 +4,4 @@ pub mod StepLemmas
 pub mod BatchLemmas
 pub mod GradedLemmas
 pub mod CellLemmas
+pub mod MarkLemmas

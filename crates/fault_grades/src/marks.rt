@@ -24,7 +24,10 @@ pub(crate) fn first_lanes(count: usize) -> Simd<u64, 16>
 pub(crate) fn is_nowhere(lanes: Simd<u64, 16>) -> bool
     ensures none { result ≡ true → (lane : ℕ) → lane < 1024 → lane_bit lanes lane ≡ false }
 {
-    first_point(lanes, 1024).is_none()
+    match first_point(lanes, 1024) {
+        None => true,
+        Some(_) => false,
+    }
 }
 
 /// Sets the bit of a lane.
@@ -43,8 +46,9 @@ pub(crate) fn mark_seen(marks: &mut [Grade], step: u32, seen: Simd<u64, 16>, agr
     ensures marks { (lane : ℕ) → lane < 1024 → slice_index_or marks.new lane Grade.Unseen
         ≡ (if lane_bit seen lane then seen_grade step (lane_bit agree lane) else slice_index_or marks.old lane Grade.Unseen) }
 {
-    if let Some(first) = first_point(seen, 1024) {
-        mark_from(marks, step, first, &seen.to_array(), &agree.to_array());
+    match first_point(seen, 1024) {
+        None => {}
+        Some(first) => mark_from(marks, step, first, &seen.to_array(), &agree.to_array()),
     }
 }
 
@@ -59,13 +63,9 @@ fn mark_from(marks: &mut [Grade], step: u32, first: usize, seen: &[u64], agree: 
     ensures before { (lane : ℕ) → lane < first → slice_index_or marks.new lane Grade.Unseen ≡ slice_index_or marks.old lane Grade.Unseen }
 {
     for lane in first..1024 {
-        mark_lane(
-            marks,
-            step,
-            lane,
-            bit_at(seen[lane / 64], lane % 64),
-            bit_at(agree[lane / 64], lane % 64),
-        );
+        let is_seen = bit_at(seen[lane / 64], lane % 64);
+        let agrees = bit_at(agree[lane / 64], lane % 64);
+        mark_lane(marks, step, lane, is_seen, agrees);
     }
 }
 
