@@ -39,18 +39,18 @@ more_added faults grades from count count' next places listed places' listed' ro
     | inl last ↦ (let e : slice_index places' at ≡ next = ap (slice_index places') last ∙ adds.there in omega arith)
     | inr apart ↦ (let less : at < count = (let e = adds.one in omega (arith, apart)) in
         let h = old.before at less in
-        let e = adds.places at less in
+        let e = adds.kept at less in
         omega arith)
   ];
   same = λ at low. elim (cases_eq at count) [
     | inl last ↦ ap (kept_fault listed') last ∙ adds.same ∙ ap (λ (p : ℕ). slice_index_or faults p NoFault) (sym adds.there ∙ ap (slice_index places') (sym last))
     | inr apart ↦ (let less : at < count = (let e = adds.one in omega (arith, apart)) in
-        adds.listed at less ∙ old.same at less ∙ ap (λ (p : ℕ). slice_index_or faults p NoFault) (sym (adds.places at less)))
+        adds.kept_faults at less ∙ old.same at less ∙ ap (λ (p : ℕ). slice_index_or faults p NoFault) (sym (adds.kept at less)))
   ];
   whole = λ place above below left. elim (cases_eq place next) [
     | inl last ↦ record { at = count; below = (let e = adds.one in omega arith); is = adds.there ∙ sym last }
     | inr apart ↦ (let among = old.whole place above (omega (arith, apart)) left in
-        record { at = among.at; below = (let e = adds.one in let b = among.below in omega arith); is = adds.places among.at among.below ∙ among.is })
+        record { at = among.at; below = (let e = adds.one in let b = among.below in omega arith); is = adds.kept among.at among.below ∙ among.is })
   ];
 }
 
@@ -58,8 +58,8 @@ more_passed : (faults : List StuckAt) (grades : List Kept) (from count count' ne
     → Passes (slice_index_or grades next Neither) count count' places listed places' listed' → IsBatch faults grades from count next places listed → IsBatch faults grades from count' (next + 1) places' listed'
 more_passed faults grades from count count' next places listed places' listed' passes old =
     subst (λ (n : ℕ). IsBatch faults grades from n (next + 1) places' listed') (sym passes.none)
-    (subst (λ (ps : List ℕ). IsBatch faults grades from count (next + 1) ps listed') (sym passes.places)
-    (subst (λ (ls : List Fault). IsBatch faults grades from count (next + 1) places ls) (sym passes.listed)
+    (subst (λ (ps : List ℕ). IsBatch faults grades from count (next + 1) ps listed') (sym passes.same_places)
+    (subst (λ (ls : List Fault). IsBatch faults grades from count (next + 1) places ls) (sym passes.same_faults)
     (record {
       few = old.few;
       places_sized = old.places_sized;

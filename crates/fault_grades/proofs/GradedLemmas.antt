@@ -6,6 +6,7 @@ use Rattle.std.proofs.lemmas.List.{length-map, length-take-le, get_or-take, take
 use Rattle.fault_secure.specs.Circuit.{Circuit}
 use Rattle.fault_secure.specs.StuckAt.{StuckAt, NoFault, present}
 use Rattle.fault_secure.specs.Settle.{Acyclic}
+use Rattle.fault_secure.specs.Listed.{listed_faults}
 use Rattle.fault_secure.specs.Run.{init_state, next_state, RunsFrom}
 use Rattle.fault_secure.specs.CodePlan.{CodePlan}
 use Rattle.fault_secure.proofs.OneRun.{one_run}
@@ -136,3 +137,9 @@ are_grades N P faults listed xs grades same sized is place inside =
 -- the same fault of the same circuit
 pub same_grade : (N N' : Circuit) (P : CodePlan) (f f' : StuckAt) (xs : List (List Bool)) (grade : Grade) → N' ≡ N → f' ≡ f → IsGradeOf N' P f' xs grade → IsGradeOf N P f xs grade
 same_grade N N' P f f' xs grade same_circuit same_fault is = subst₂ (λ (C : Circuit) (g : StuckAt). IsGradeOf C P g xs grade) same_circuit same_fault is
+
+pub all_graded : (N : Circuit) (P : CodePlan) (faults : List StuckAt) (xs : List (List Bool)) (grades : List Kept) → faults ≡ listed_faults N → length grades ≡ length faults → AreGraded N P faults xs grades → AreGrades N P xs (map grade_as grades)
+all_graded N P faults xs grades same sized is = record {
+  sized = length-map grades grade_as ∙ sized ∙ ap length same;
+  each = are_grades N P faults (listed_faults N) xs grades same sized is;
+}

@@ -16,7 +16,7 @@ use Rattle.fault_grades.specs.declared.grade.Grade.TheVariants.{Unseen as Neithe
 
 -- the nets that a step shows: the plan's outputs, and the rails
 pub record HasNets (N : Circuit) (P : CodePlan) (outputs : List NetId) : Type 0 where
-  pub outputs : net_numbers outputs ≡ take P.outputs N.outputs
+  pub numbers : net_numbers outputs ≡ take P.outputs N.outputs
   pub within : All (λ net. net.number < nets N) outputs
   pub rail1 : P.rail1 < nets N
   pub rail2 : P.rail2 < nets N
@@ -53,15 +53,15 @@ pub record Adds (faults : List StuckAt) (place count count' : ℕ) (places : Lis
   pub one : count' ≡ count + 1
   pub there : slice_index places' count ≡ place
   pub same : kept_fault listed' count ≡ slice_index_or faults place NoFault
-  pub places : (at : ℕ) → at < count → slice_index places' at ≡ slice_index places at
-  pub listed : (at : ℕ) → at < count → kept_fault listed' at ≡ kept_fault listed at
+  pub kept : (at : ℕ) → at < count → slice_index places' at ≡ slice_index places at
+  pub kept_faults : (at : ℕ) → at < count → kept_fault listed' at ≡ kept_fault listed at
 
 -- it is decided, and none was added
 pub record Passes (grade : Kept) (count count' : ℕ) (places : List ℕ) (listed : List Fault) (places' : List ℕ) (listed' : List Fault) : Type 0 where
   pub decided : is_left grade ≡ false
   pub none : count' ≡ count
-  pub places : places' ≡ places
-  pub listed : listed' ≡ listed
+  pub same_places : places' ≡ places
+  pub same_faults : listed' ≡ listed
 
 abbrev pub TakesUp : List StuckAt → Kept → ℕ → ℕ → ℕ → List ℕ → List Fault → List ℕ → List Fault → Type 0
 TakesUp faults grade place count count' places listed places' listed' =

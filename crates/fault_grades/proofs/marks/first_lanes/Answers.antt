@@ -10,6 +10,8 @@ set_more old new index here others before lane some low = elim (cases_eq lane (i
   | inr apart ↦ others lane apart ∙ before lane some (omega (arith, apart))
 ]
 
-pub loop-index-preserved-clause-set : goal.loop-index-preserved-clause-set
-loop-index-preserved-clause-set c =
-    set_more c.loop-index.words c.set_lane.new.words c.loop-index.index c.set_lane.ensures.here c.set_lane.ensures.others c.loop-index.invariant.set
+pub loop-index-preserved : goal.loop-index-preserved
+loop-index-preserved c = record {
+  sized = omega arith;
+  set = set_more c.loop-index.words c.set_lane.new.words c.loop-index.index c.set_lane.ensures.here c.set_lane.ensures.others c.loop-index.invariant.set;
+}

@@ -15,7 +15,8 @@ agreeing-agree-requires c =
 
 pub wrong_lanes-wrong-requires : goal.wrong_lanes-wrong-requires
 wrong_lanes-wrong-requires c =
-    (nets_kept c.args.bench.now.circuit c.step.new.self.circuit c.args.plan.now c.args.outputs.now c.step.ensures.step.same.circuit c.requires.nets).within
+    let kept = nets_kept c.args.bench.now.circuit c.step.new.self.circuit c.args.plan.now c.args.outputs.now c.step.ensures.step.same.circuit c.requires.nets in
+    record { within = kept.within }
 
 pub returns : goal.returns
 returns c =
@@ -27,7 +28,7 @@ returns c =
     let seen : (lane : ℕ) → lane < 1024 → lane_bit c.meet-seen.result lane ≡ (lane_bit c.args.undecided lane && (agree lane || wrong lane)) =
     λ lane inside. step_seen (lane_bit c.args.undecided lane) (lane_bit c.agreeing-agree.result lane) (lane_bit c.wrong_lanes-wrong.result lane) (lane_bit c.join.result lane) (lane_bit c.meet-seen.result lane) (agree lane) (wrong lane)
     (c.agreeing-agree.ensures.lanes.lanes lane inside)
-    (wrong_is N P c.args.outputs.now (valuation_of new 0) (valuation_of new lane) (lane_bit c.wrong_lanes-wrong.result lane) c.requires.nets.outputs (c.wrong_lanes-wrong.ensures.lanes.lanes lane inside))
+    (wrong_is N P c.args.outputs.now (valuation_of new 0) (valuation_of new lane) (lane_bit c.wrong_lanes-wrong.result lane) c.requires.nets.numbers (c.wrong_lanes-wrong.ensures.lanes.lanes lane inside))
     (c.join.ensures.lanes.lanes lane inside) (c.meet-seen.ensures.lanes.lanes lane inside) in
     let marked : (lane : ℕ) → lane < 1024
     → slice_index_or c.mark_seen.new.marks lane Unseen ≡ cond (lane_bit c.meet-seen.result lane) (seen_grade c.args.step (agree lane)) (slice_index_or c.args.marks.now lane Unseen) =
