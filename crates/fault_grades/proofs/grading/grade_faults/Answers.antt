@@ -12,7 +12,7 @@ returns c =
     let P = c.args.plan.now in
     let grades = c.grade_all.new.grades in
     let room : length grades ≡ c.in_ok-items.items.len = omega arith in
-    let sized : length grades ≡ length c.args.faults.now = omega arith in
+    let sized : length grades ≡ length c.args.faults.now = omega (arith, c.in_ok-items.ensures.len, c.len.ensures.count) in
     record {
       grades = subst (λ (list : List Kept). AreGrades N P c.args.steps.now (map grade_as list)) (sym (with_items_is c.in_ok-items.items grades room))
           (all_graded N P c.args.faults.now c.args.steps.now grades c.requires.faults sized c.grade_all.ensures.graded);
