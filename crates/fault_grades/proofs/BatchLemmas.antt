@@ -1,7 +1,7 @@
 -- Which faults are in a batch, and what is written of them.
-use Rattle.std.proofs.Common.{◌≡◌, ℕ, suc, ◌+◌, ◌<◌, ◌≤◌, ◌⊎◌, Bool, true, false, List, [], ◌∷◌, length, set, take, get_or, refl, sym, ap, subst, ◌∙◌, inl, inr, All, arith, add-one}
+use Rattle.std.proofs.Common.{◌≡◌, ℕ, ◌+◌, ◌<◌, ◌≤◌, false, List, length, set, take, get_or, refl, sym, ap, subst, ◌∙◌, inl, inr, All, arith, add-one}
 use Rattle.std.specs.Prelude.{slice_index, slice_index_or}
-use Rattle.std.proofs.lemmas.Bool.{cases_lt, cases_eq, both_ways}
+use Rattle.std.proofs.lemmas.Bool.{cases_eq, both_ways}
 use Rattle.std.proofs.lemmas.List.{get_or-map, get_or-set_same, get_or-set_other, get_or-take, length-take-le}
 use Rattle.std.proofs.lemmas.List.Elements.{All-get_or, All-from_get_or}
 use Rattle.fault_secure.specs.StuckAt.{StuckAt, NoFault, fault_cell}
@@ -10,7 +10,7 @@ use Rattle.tsc_net.specs.declared.fault.Fault.{Fault}
 use Rattle.tsc_net.specs.declared.fault.Fault.TheVariants.{Stem as TheStem}
 use Rattle.fault_lanes.specs.Batch.{batch_fault}
 use Rattle.fault_grades.specs.Grade.{grade_as, grade_at, is_left}
-use Rattle.fault_grades.specs.Batch.{kept_fault, IsAmong, IsBatch, Adds, Passes, TakesUp, Takes, Stays, AreWritten}
+use Rattle.fault_grades.specs.Batch.{kept_fault, IsBatch, Adds, Passes, TakesUp, AreWritten}
 use Rattle.fault_grades.specs.declared.grade.Grade.{Grade as Kept}
 use Rattle.fault_grades.specs.declared.grade.Grade.TheVariants.{Unseen as Neither}
 

@@ -1,5 +1,5 @@
 -- Where listed faults are, and the nets that a plan shows.
-use Rattle.std.proofs.Common.{◌≡◌, ℕ, zero, suc, ◌+◌, ◌<◌, ◌≤◌, List, [], ◌∷◌, ◌++◌, length, take, map, replicate, refl, sym, ap, subst, ◌∙◌, All, arith, get_or}
+use Rattle.std.proofs.Common.{◌≡◌, ℕ, zero, suc, ◌+◌, ◌<◌, ◌≤◌, List, [], ◌∷◌, length, take, map, replicate, refl, sym, ap, subst, ◌∙◌, All, arith, get_or}
 use Rattle.std.proofs.lemmas.List.{length-append, length-replicate, length-map, take-map}
 use Rattle.std.proofs.lemmas.List.Elements.{All-nil, All-cons, All-append, All-take}
 use Rattle.std.specs.Prelude.{true, false}

@@ -1,8 +1,8 @@
 -- How far faults are graded.
-use Rattle.std.proofs.Common.{◌≡◌, ℕ, zero, suc, ◌+◌, ◌<◌, ◌≤◌, ◌⊎◌, Bool, true, false, List, [], ◌∷◌, ◌++◌, length, take, drop, map, refl, sym, ap, subst, subst₂, ◌∙◌, inl, inr, arith}
+use Rattle.std.proofs.Common.{◌≡◌, ℕ, zero, suc, ◌+◌, ◌<◌, ◌≤◌, Bool, true, false, List, [], ◌∷◌, ◌++◌, length, take, drop, map, refl, sym, ap, subst, subst₂, ◌∙◌, inl, inr, arith}
 use Rattle.std.specs.Prelude.{slice_index, slice_index_or}
 use Rattle.std.proofs.lemmas.Bool.{cases_lt, cases_Bool, both_ways}
-use Rattle.std.proofs.lemmas.List.{length-map, length-take-le, get_or-take, take-take, take-append-drop, take_all}
+use Rattle.std.proofs.lemmas.List.{length-map, get_or-take, take-take, take-append-drop, take_all}
 use Rattle.fault_secure.specs.Circuit.{Circuit}
 use Rattle.fault_secure.specs.StuckAt.{StuckAt, NoFault, present}
 use Rattle.fault_secure.specs.Settle.{Acyclic}
@@ -11,11 +11,11 @@ use Rattle.fault_secure.specs.Run.{init_state, next_state, RunsFrom}
 use Rattle.fault_secure.specs.CodePlan.{CodePlan}
 use Rattle.fault_secure.proofs.OneRun.{one_run}
 use Rattle.tsc_net.specs.declared.fault.Fault.{Fault}
-use Rattle.grading_laws.specs.Grades.{Grade, AlarmAt, SilentAt, Unseen, every_step, IsGrade, grade_of}
+use Rattle.grading_laws.specs.Grades.{Grade, Unseen, every_step, IsGrade}
 use Rattle.grading_laws.specs.GradeLaws.{GradesAreWorkedOut, DecidedStays}
 use Rattle.grading_laws.specs.Counts.{is_unseen, AreGrades}
 use Rattle.fault_grades.specs.Grade.{grade_as, grade_at, is_left, IsGradeOf}
-use Rattle.fault_grades.specs.Batch.{kept_fault, IsAmong, IsBatch, AreWritten, Takes, Stays, AreGraded, AreGradedTo}
+use Rattle.fault_grades.specs.Batch.{kept_fault, IsBatch, AreWritten, Takes, Stays, AreGraded, AreGradedTo}
 use Rattle.fault_grades.specs.declared.grade.Grade.{Grade as Kept}
 use Rattle.fault_grades.specs.declared.grade.Grade.TheVariants.{Unseen as Neither}
 

@@ -1,10 +1,9 @@
 -- Two runs, step by step: what is decided so far, and what is left of them.
-use Rattle.std.proofs.Common.{◌≡◌, ℕ, zero, suc, ◌+◌, ◌<◌, ◌≤◌, Bool, true, false, not, if◌then◌else◌, List, [], ◌∷◌, length, drop, take, refl, sym, ap, subst, subst₂, ◌∙◌, inl, inr, arith}
+use Rattle.std.proofs.Common.{◌≡◌, ℕ, zero, suc, ◌+◌, ◌<◌, ◌≤◌, Bool, true, false, not, if◌then◌else◌, List, [], ◌∷◌, length, drop, refl, sym, ap, subst, subst₂, ◌∙◌, arith}
 use Rattle.std.proofs.Math.Seq.{drop-cons}
 use Rattle.std.proofs.lemmas.List.{drop_all}
-use Rattle.tsc_bits.specs.Bits.{same}
 use Rattle.fault_secure.specs.Circuit.{Circuit, bit}
-use Rattle.fault_secure.specs.StuckAt.{StuckAt, NoFault, present}
+use Rattle.fault_secure.specs.StuckAt.{StuckAt, NoFault}
 use Rattle.fault_secure.specs.Settle.{Acyclic, Settles}
 use Rattle.fault_secure.specs.Run.{init_state, next_state, RunsFrom, Runs}
 use Rattle.fault_secure.specs.CodePlan.{CodePlan}

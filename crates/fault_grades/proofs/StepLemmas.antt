@@ -1,20 +1,19 @@
 -- A step of all lanes, and what it decides in one.
-use Rattle.std.proofs.Common.{◌≡◌, ℕ, suc, ◌+◌, ◌<◌, ◌≤◌, Bool, true, false, not, ◌&&◌, ◌||◌, cond, List, [], length, take, map, refl, sym, ap, subst, ◌∙◌, arith, add-one}
+use Rattle.std.proofs.Common.{◌≡◌, ℕ, ◌+◌, ◌<◌, ◌≤◌, Bool, true, false, not, ◌&&◌, ◌||◌, cond, List, [], length, take, map, refl, sym, ap, subst, ◌∙◌, arith, add-one}
 use Rattle.std.proofs.lemmas.List.{get_or-take}
-use Rattle.std.proofs.lemmas.Bool.{cases_Bool}
 use Rattle.tsc_bits.specs.Bits.{same}
 use Rattle.fault_secure.specs.Circuit.{Circuit, bit}
 use Rattle.fault_secure.specs.StuckAt.{StuckAt, NoFault}
 use Rattle.fault_secure.specs.Settle.{Acyclic, Settles}
 use Rattle.fault_secure.specs.Run.{next_state}
 use Rattle.fault_secure.specs.CodePlan.{CodePlan}
-use Rattle.fault_secure.specs.FaultSecure.{equal_bits, outputs_in, at_step}
+use Rattle.fault_secure.specs.FaultSecure.{equal_bits, at_step}
 use Rattle.tsc_net.specs.PlanView.{net_numbers}
 use Rattle.tsc_net.specs.declared.ids.NetId.{NetId}
-use Rattle.grading_laws.specs.Grades.{Grade, AlarmAt, SilentAt, Unseen}
+use Rattle.grading_laws.specs.Grades.{Grade, Unseen}
 use Rattle.fault_lanes.specs.Batch.{lane_fault}
 use Rattle.fault_lanes.specs.Bench.{LanesState, fault_of, state_of, valuation_of, IsSameBatch, IsStep}
-use Rattle.fault_grades.specs.Grade.{grade_as, grade_at, is_left, agree_in, wrong_in, marked, seen_grade}
+use Rattle.fault_grades.specs.Grade.{grade_as, is_left, agree_in, wrong_in, marked, seen_grade}
 use Rattle.fault_grades.specs.declared.grade.Grade.{Grade as Kept}
 use Rattle.fault_grades.specs.declared.grade.Grade.TheVariants.{Alarm, Silent, Unseen as Neither}
 use Rattle.fault_grades.specs.Batch.{HasNets}

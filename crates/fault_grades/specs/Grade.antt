@@ -1,5 +1,5 @@
 -- Grades of the code, and when one is that of a fault.
-use Rattle.std.specs.Prelude.{◌≡◌, ℕ, ◌<◌, Bool, not, if◌then◌else◌, List, length, map, slice_index_or}
+use Rattle.std.specs.Prelude.{◌≡◌, ℕ, Bool, not, if◌then◌else◌, List, slice_index_or}
 use Rattle.tsc_bits.specs.Bits.{same}
 use Rattle.fault_secure.specs.Circuit.{Circuit, bit}
 use Rattle.fault_secure.specs.StuckAt.{StuckAt, NoFault}

@@ -1,4 +1,4 @@
-use Rattle.std.proofs.Common.{◌≡◌, ◌+◌, ◌<◌, ◌≤◌, length, get_or, arith}
+use Rattle.std.proofs.Common.{◌<◌, ◌≤◌, get_or, arith}
 use Rattle.std.proofs.lemmas.List.{get_or_default}
 use Rattle.fault_grades.specs.declared.grade.Grade.TheVariants.{Alarm, Unseen}
 use Rattle.fault_grades.proofs.BatchLemmas.{batch_first, batch_more, taken_few}

@@ -1,4 +1,4 @@
-use Rattle.std.proofs.Common.{◌<◌, Bool, List, take, refl, sym, subst, subst₂, ◌∙◌, All, arith}
+use Rattle.std.proofs.Common.{◌<◌, List, take, refl, sym, subst, subst₂, ◌∙◌, All, arith}
 use Rattle.fault_secure.specs.Circuit.{Circuit, nets}
 use Rattle.fault_secure.specs.StuckAt.{StuckAt, fault_cell}
 use Rattle.fault_grades.specs.Batch.{HasRoom, AreGraded}

@@ -1,5 +1,5 @@
 -- All faults are graded over the steps of the rounds so far.
-use Rattle.std.proofs.Common.{◌≡◌, ℕ, ◌≤◌, ◌-◌, length, take}
+use Rattle.std.proofs.Common.{◌≡◌, ◌-◌, length, take}
 use Rattle.fault_grades.specs.Batch.{HasRoom, AreGraded}
 use Rattle.fault_grades.proofs.grading.grade_all.Given as goal
 

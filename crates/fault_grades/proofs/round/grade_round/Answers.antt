@@ -1,5 +1,5 @@
-use Rattle.std.proofs.Common.{refl, ◌∙◌, arith, take}
-use Rattle.fault_grades.proofs.GradedLemmas.{graded_begin, graded_end}
+use Rattle.std.proofs.Common.{refl, take}
+use Rattle.fault_grades.proofs.GradedLemmas.{graded_begin}
 use Rattle.fault_grades.proofs.round.grade_round.Goals as goal
 
 pub loop-from-init : goal.loop-from-init

@@ -1,4 +1,4 @@
-use Rattle.std.proofs.Common.{◌≤◌, ◌||◌, length, arith, ◌∙◌, ap}
+use Rattle.std.proofs.Common.{◌||◌, arith, ◌∙◌, ap}
 use Rattle.fault_secure.specs.Circuit.{bit}
 use Rattle.lane_sim.specs.Lanes.{lane_bit}
 use Rattle.fault_lanes.specs.Bench.{valuation_of}

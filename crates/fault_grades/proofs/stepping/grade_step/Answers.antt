@@ -1,7 +1,6 @@
-use Rattle.std.proofs.Common.{◌≡◌, ◌<◌, ℕ, ◌&&◌, ◌||◌, cond, ap, ap₂, sym, ◌∙◌, subst, arith}
+use Rattle.std.proofs.Common.{◌≡◌, ◌<◌, ℕ, ◌&&◌, ◌||◌, cond, ap, ◌∙◌, arith}
 use Rattle.std.specs.Prelude.{slice_index_or}
 use Rattle.lane_sim.specs.Lanes.{lane_bit}
-use Rattle.fault_secure.specs.Circuit.{Circuit, nets}
 use Rattle.fault_lanes.specs.Bench.{valuation_of}
 use Rattle.fault_grades.specs.Grade.{agree_in, wrong_in, seen_grade}
 use Rattle.fault_grades.specs.declared.grade.Grade.TheVariants.{Unseen}

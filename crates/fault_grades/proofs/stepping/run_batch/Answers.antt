@@ -1,6 +1,5 @@
-use Rattle.std.proofs.Common.{◌≡◌, ℕ, ◌+◌, ◌<◌, ◌≤◌, [], length, take, refl, sym, ap, ◌∙◌, arith}
+use Rattle.std.proofs.Common.{◌≡◌, ◌<◌, [], length, take, refl, sym, ap, ◌∙◌, arith}
 use Rattle.std.proofs.lemmas.List.{length-take-le}
-use Rattle.fault_secure.specs.StuckAt.{NoFault}
 use Rattle.fault_lanes.specs.Bench.{fault_of, state_of}
 use Rattle.fault_grades.specs.Grade.{grade_as, grade_at, is_left}
 use Rattle.fault_grades.proofs.StandLemmas.{stands_first, stands_last, stands_decided}
