@@ -1,0 +1,2 @@
+pub mod Grade
+pub mod Batch
