@@ -3,7 +3,7 @@ use Rattle.std.specs.Prelude.{ℕ, List, codes, if◌then◌else◌, Option, Som
 use Rattle.std.specs.Str.{bytes_eq}
 use Rattle.tsc_text.specs.Number.{number_of}
 use Rattle.commands.specs.declared.command.Command.{Command}
-use Rattle.commands.specs.declared.command.Command.TheVariants.{SynthBlif, SynthWatched, SynthKiss, SynthPla, Audit, AuditWide, AuditExact, AuditMapped, AskExact, Faults, Vectors, Sim, Join}
+use Rattle.commands.specs.declared.command.Command.TheVariants.{SynthBlif, SynthWatched, SynthKiss, SynthPla, Audit, AuditWide, AuditExact, AuditMapped, AuditProof, AskExact, Faults, Vectors, Grade, Sim, Join}
 use Rattle.commands.specs.declared.request.Request.{Request}
 use Rattle.commands.specs.declared.request.Request.TheVariants.{Read, Make, Help}
 use Rattle.commands.specs.declared.source_format.SourceFormat.TheVariants.{Blif, Kiss, Pla}
@@ -27,8 +27,10 @@ command_named words =
     else if begin_so words (codes "audit") (codes "exact") then option_map AuditExact (format_named (word_at words 2))
     else if are_two words (codes "audit") (codes "mapped") then Some AuditMapped
     else if are_two words (codes "ask") (codes "exact") then Some AskExact
+    else if are_two words (codes "audit") (codes "proof") then Some AuditProof
     else if is_only words (codes "faults") then Some Faults
     else if is_only words (codes "vectors") then Some Vectors
+    else if is_only words (codes "grade") then Some Grade
     else if is_only words (codes "join") then Some Join
     else option_map Sim (sim_fault words)
 

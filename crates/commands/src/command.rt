@@ -34,12 +34,17 @@ pub enum Command {
     AuditExact(SourceFormat),
     /// `audit mapped`: from a netlist with a mapped one after it to whether this is the first one mapped cover by cover.
     AuditMapped,
+    /// `audit proof`: from a BLIF source with a netlist after it, and after this a refutation of the exact question of both, to whether the netlist
+    /// follows the source and each failing cell is heard.
+    AuditProof,
     /// `ask exact`: from a BLIF source with a netlist after it to the exact question of both, as clauses.
     AskExact,
     /// `faults`: from a netlist to its fault list.
     Faults,
     /// `vectors`: from a netlist to its test vectors.
     Vectors,
+    /// `grade`: from a netlist with step lines after it to what they show of each listed fault.
+    Grade,
     /// `sim ..`: from a netlist with step lines after it to one line per step, under this fault.
     Sim(SimFault),
     /// `join`: from netlists one after another to the one netlist of all of them, with one pair of rails.
@@ -71,10 +76,14 @@ pub fn command_of(alloc: Global, words: &Words) -> Result<Option<Command>, Alloc
         Ok(Some(Command::AuditMapped))
     } else if are_two(words, b"ask", b"exact") {
         Ok(Some(Command::AskExact))
+    } else if are_two(words, b"audit", b"proof") {
+        Ok(Some(Command::AuditProof))
     } else if is_only(words, b"faults") {
         Ok(Some(Command::Faults))
     } else if is_only(words, b"vectors") {
         Ok(Some(Command::Vectors))
+    } else if is_only(words, b"grade") {
+        Ok(Some(Command::Grade))
     } else if is_only(words, b"join") {
         Ok(Some(Command::Join))
     } else {

@@ -15,10 +15,12 @@ use Rattle.kiss_read.specs.declared.error.KissError.{KissError}
 use Rattle.kiss_read.specs.declared.error.KissError.TheVariants as kiss
 use Rattle.pla_read.specs.declared.error.PlaError.{PlaError}
 use Rattle.pla_read.specs.declared.error.PlaError.TheVariants as pla
+use Rattle.refutation_text.specs.declared.fault.RefutationFault.{RefutationFault}
+use Rattle.refutation_text.specs.declared.fault.RefutationFault.TheVariants as refutation
 use Rattle.refusals.specs.declared.refusal.Refusal.{Refusal}
 use Rattle.refusals.specs.declared.refusal.Refusal.TheVariants.{Usage, ReadFault, WriteFault, Memory, TooLong, Text, Beyond}
 use Rattle.refusals.specs.declared.text_refusal.TextRefusal.{TextRefusal}
-use Rattle.refusals.specs.declared.text_refusal.TextRefusal.TheVariants.{BadByte, Blif, Kiss, Pla, AfterTheEnd, NoNetlist, NotListed, StepShape, TooMany}
+use Rattle.refusals.specs.declared.text_refusal.TextRefusal.TheVariants.{BadByte, Blif, Kiss, Pla, AfterTheEnd, NoNetlist, NotListed, NoStates, StepShape, Refutation, TooMany}
 use Rattle.refusals.specs.declared.limit.Limit.{Limit as TextLimit}
 use Rattle.refusals.specs.declared.limit.Limit.TheVariants as limit
 use Rattle.refusals.specs.declared.limit.OwnLimit.{OwnLimit}
@@ -114,6 +116,14 @@ pla_text (pla.RowShape line) = at_line line (codes "row shape")
 pla_text (pla.Limit line which) = at_line line (most_text (table_most_of which) which)
 pla_text (pla.Memory error) = codes "out of memory"
 
+-- why a refutation isn't followed
+abbrev pub refutation_text : RefutationFault → List ℕ
+refutation_text (refutation.Shape line) = at_line line (codes "refutation shape")
+refutation_text (refutation.NoClause line) = at_line line (codes "no clause")
+refutation_text (refutation.Hint line) = at_line line (codes "hint")
+refutation_text refutation.NoRefutation = codes "no refutation"
+refutation_text refutation.Unfinished = codes "unfinished"
+
 -- a limit that a text passes by itself
 abbrev pub text_limit_text : TextLimit → List ℕ
 text_limit_text limit.States = codes "limit: 924 states"
@@ -137,12 +147,14 @@ text_refusal_text (Pla error) = pla_text error
 text_refusal_text (AfterTheEnd line) = at_line line (codes "after the end")
 text_refusal_text NoNetlist = codes "no netlist"
 text_refusal_text NotListed = codes "fault not listed"
+text_refusal_text NoStates = codes "no states"
 text_refusal_text (StepShape line) = at_line line (codes "step shape")
+text_refusal_text (Refutation fault) = refutation_text fault
 text_refusal_text (TooMany limit) = text_limit_text limit
 
 -- why there is no answer
 abbrev pub refusal_text : Refusal → List ℕ
-refusal_text Usage = codes "usage: tsc synth|ask|audit|faults|vectors|sim|make|join|help"
+refusal_text Usage = codes "usage: tsc synth|ask|audit|faults|vectors|grade|sim|make|join|help"
 refusal_text ReadFault = codes "reading failed"
 refusal_text WriteFault = codes "writing failed"
 refusal_text (Memory error) = codes "out of memory"
@@ -158,6 +170,9 @@ note_of refusal = codes "tsc: " ++ (refusal_text refusal ++ 10 ∷ [])
 abbrev pub NeedsMemory : TextRefusal → Type 0
 NeedsMemory NoNetlist = ⊥
 NeedsMemory NotListed = ⊥
+NeedsMemory NoStates = ⊥
+NeedsMemory (Refutation refutation.NoRefutation) = ⊥
+NeedsMemory (Refutation refutation.Unfinished) = ⊥
 NeedsMemory (TooMany limit) = ⊥
 NeedsMemory _ = Unit {0}
 

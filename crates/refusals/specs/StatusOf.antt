@@ -10,7 +10,7 @@ use Rattle.pla_read.specs.declared.error.PlaError.TheVariants as pla
 use Rattle.refusals.specs.declared.refusal.Refusal.{Refusal}
 use Rattle.refusals.specs.declared.refusal.Refusal.TheVariants.{Usage as NoMeaning, ReadFault as CannotRead, WriteFault as CannotWrite, Memory as NoMemory, TooLong, Text, Beyond}
 use Rattle.refusals.specs.declared.text_refusal.TextRefusal.{TextRefusal}
-use Rattle.refusals.specs.declared.text_refusal.TextRefusal.TheVariants.{BadByte, Blif, Kiss, Pla, AfterTheEnd, NoNetlist, NotListed, StepShape, TooMany}
+use Rattle.refusals.specs.declared.text_refusal.TextRefusal.TheVariants.{BadByte, Blif, Kiss, Pla, AfterTheEnd, NoNetlist, NotListed, NoStates, StepShape, Refutation, TooMany}
 use Rattle.refusals.specs.declared.status.Status.{Status}
 use Rattle.refusals.specs.declared.status.Status.TheVariants.{Usage, BadInput, Limit, ReadFault, WriteFault, Memory}
 
@@ -60,7 +60,9 @@ text_status (Pla error) = pla_status error
 text_status (AfterTheEnd line) = BadInput
 text_status NoNetlist = BadInput
 text_status NotListed = BadInput
+text_status NoStates = BadInput
 text_status (StepShape line) = BadInput
+text_status (Refutation fault) = BadInput
 text_status (TooMany limit) = Limit
 
 -- how a run ends that is refused by this

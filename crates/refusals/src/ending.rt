@@ -5,6 +5,6 @@
 pub enum Ending {
     /// It finished what it was asked for.
     Finished,
-    /// An audit's verdict is no.
+    /// It says no: an audit, or a question that isn't asked.
     Rejected,
 }

@@ -1,6 +1,6 @@
 //! The line that tells why there is no answer.
 ghost use Rattle.std.specs.Prelude.{◌≡◌, ◌++◌, IfOk, OnOk, IfSome, IsNone};
-ghost use Rattle.refusals.specs.Notes.{IsOfText, NeedsMemory, at_line, blif_text, kiss_text, limit_text, most_of, most_text, net_text, note_of, own_limit_text, pla_text, refusal_text, table_most_of, text_refusal_text, which_text};
+ghost use Rattle.refusals.specs.Notes.{IsOfText, NeedsMemory, at_line, blif_text, kiss_text, limit_text, most_of, most_text, net_text, note_of, own_limit_text, pla_text, refusal_text, table_most_of, text_refusal_text, which_text, refutation_text};
 
 use crate::limit::{Limit, OwnLimit};
 use crate::refusal::Refusal;
@@ -8,6 +8,7 @@ use crate::text_refusal::TextRefusal;
 use blif_read::{BlifError, Kind};
 use kiss_read::KissError;
 use pla_read::PlaError;
+use refutation_text::RefutationFault;
 use std::alloc::{AllocError, Global};
 use tsc_io::Bytes;
 use tsc_net::{NameTexts, NetError};
@@ -55,7 +56,21 @@ fn push_text_refusal(out: &mut Bytes, refusal: &TextRefusal) -> Result<(), Alloc
         TextRefusal::Pla(error) => push_pla(out, error),
         TextRefusal::AfterTheEnd { line } => push_at_line(out, *line, b"after the end"),
         TextRefusal::StepShape { line } => push_at_line(out, *line, b"step shape"),
+        TextRefusal::Refutation(fault) => push_refutation(out, fault),
         _ => unreachable!(),
+    }
+}
+
+/// Appends why a refutation isn't followed.
+fn push_refutation(out: &mut Bytes, fault: &RefutationFault) -> Result<(), AllocError>
+    ensures text { OnOk result (out.new ≡ out.old ++ refutation_text fault.now) }
+{
+    match fault {
+        RefutationFault::Shape { line } => push_at_line(out, *line, b"refutation shape"),
+        RefutationFault::NoClause { line } => push_at_line(out, *line, b"no clause"),
+        RefutationFault::Hint { line } => push_at_line(out, *line, b"hint"),
+        RefutationFault::NoRefutation => out.append(b"no refutation"),
+        RefutationFault::Unfinished => out.append(b"unfinished"),
     }
 }
 
@@ -241,7 +256,7 @@ pub fn fixed_note(refusal: &Refusal) -> Option<&'static [u8]>
 {
     match refusal {
         Refusal::Usage => Some(
-            b"tsc: usage: tsc synth|ask|audit|faults|vectors|sim|make|join|help\n",
+            b"tsc: usage: tsc synth|ask|audit|faults|vectors|grade|sim|make|join|help\n",
         ),
         Refusal::ReadFault => Some(b"tsc: reading failed\n"),
         Refusal::WriteFault => Some(b"tsc: writing failed\n"),
@@ -261,10 +276,24 @@ fn fixed_text_note(refusal: &TextRefusal) -> Option<&'static [u8]>
     match refusal {
         TextRefusal::NoNetlist => Some(b"tsc: no netlist\n"),
         TextRefusal::NotListed => Some(b"tsc: fault not listed\n"),
+        TextRefusal::NoStates => Some(b"tsc: no states\n"),
+        TextRefusal::Refutation(fault) => fixed_refutation_note(fault),
         TextRefusal::TooMany(limit) => Some(limit_note(*limit)),
         TextRefusal::BadByte { .. } | TextRefusal::Blif { .. } => None,
         TextRefusal::Kiss(_) | TextRefusal::Pla(_) => None,
         TextRefusal::AfterTheEnd { .. } | TextRefusal::StepShape { .. } => None,
+    }
+}
+
+/// The note of why a refutation isn't followed, if it isn't told from the text.
+fn fixed_refutation_note(fault: &RefutationFault) -> Option<&'static [u8]>
+    ensures note { IfSome result (λ note. note.now ≡ note_of (Refusal.Text (TextRefusal.Refutation fault.now))) }
+    ensures none { IsNone result → NeedsMemory (TextRefusal.Refutation fault.now) }
+{
+    match fault {
+        RefutationFault::NoRefutation => Some(b"tsc: no refutation\n"),
+        RefutationFault::Unfinished => Some(b"tsc: unfinished\n"),
+        _ => None,
     }
 }
 

@@ -7,7 +7,7 @@ ghost use Rattle.refusals.specs.StatusCode.{status_code};
 pub enum Status {
     /// The answer was written.
     Done,
-    /// An audit's verdict is no, and was written.
+    /// The command says no, and this was written.
     AuditNo,
     /// The words have no meaning.
     Usage,

@@ -7,6 +7,7 @@ use crate::status::Status;
 use blif_read::{BlifError, Kind};
 use kiss_read::KissError;
 use pla_read::PlaError;
+use refutation_text::RefutationFault;
 use tsc_net::NetError;
 
 /// What a text is refused for. Lines are by their numbers, from 1.
@@ -26,8 +27,12 @@ pub enum TextRefusal {
     NoNetlist,
     /// The fault is not listed.
     NotListed,
+    /// The netlist's plan lists no states of its registers.
+    NoStates,
     /// A line after the netlist is no step's.
     StepShape { line: usize },
+    /// The refutation isn't followed, or there is none.
+    Refutation(RefutationFault),
     /// A limit is passed.
     TooMany(Limit),
 }
@@ -40,7 +45,8 @@ impl TextRefusal {
         match self {
             TextRefusal::BadByte { .. } | TextRefusal::AfterTheEnd { .. } => Status::BadInput,
             TextRefusal::NoNetlist | TextRefusal::NotListed => Status::BadInput,
-            TextRefusal::StepShape { .. } => Status::BadInput,
+            TextRefusal::NoStates | TextRefusal::StepShape { .. } => Status::BadInput,
+            TextRefusal::Refutation(_) => Status::BadInput,
             TextRefusal::Blif { kind: _, error } => blif_status(error),
             TextRefusal::Kiss(error) => kiss_status(error),
             TextRefusal::Pla(error) => pla_status(error),
