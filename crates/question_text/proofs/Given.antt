@@ -1,17 +1,20 @@
 -- Clauses that are given, one list after another.
-use Rattle.std.proofs.Common.{◌≡◌, ℕ, ◌+◌, ◌<◌, ◌≤◌, not, List, [], ◌∷◌, ◌++◌, map, filter, drop, length, slice_index_or, All, refl, sym, ap, ◌∙◌, subst, arith, length-append}
-use Rattle.std.proofs.lemmas.List.{map-append, at_drop_more, at_drop_all}
+use Rattle.std.proofs.Common.{◌≡◌, ℕ, ◌+◌, ◌<◌, not, List, [], ◌∷◌, ◌++◌, map, filter, drop, length, slice_index_or, All, refl, sym, ap, ◌∙◌, subst, arith, append_assoc, append-nil, length-append}
+use Rattle.std.proofs.lemmas.List.{map-append, at_drop_more}
 use Rattle.std.proofs.lemmas.List.Elements.{filter-append}
 use Rattle.tsc_bits.proofs.Lists.{all_left, all_right}
+use Rattle.fault_secure.specs.CodePlan.{CodePlan}
 use Rattle.fault_secure.specs.Circuit.{Circuit, node, no_node, node_net}
 use Rattle.refutations.specs.declared.literal.Literal.{Literal}
-use Rattle.refutations.specs.Checking.{AreWithin, CheckerState, with_clause}
+use Rattle.refutations.specs.Checking.{AreWithin, CheckerState, IsSound, empty_checker, with_clause}
+use Rattle.refutations.proofs.Soundness.{sound_empty, sound_given}
+use Rattle.exact_question.specs.Question.{question, variables}
 use Rattle.exact_question.specs.Rows.{clashes, once, written}
 use Rattle.question_text.specs.declared.cells.Cell.{Cell}
 use Rattle.question_text.specs.Nodes.{node_gates, nodes_gates}
 use Rattle.question_text.specs.Failing.{cell_at, cell_gates, choice_gates, failing_gates}
 use Rattle.question_text.specs.Gates.{after_clauses}
-use Rattle.question_text.specs.Giving.{CanBeGiven, given}
+use Rattle.question_text.specs.Giving.{CanBeGiven, given, question_state}
 use Rattle.question_text.proofs.Once.{after_clauses-written}
 
 pub given-append : (state : CheckerState) (as_ bs : List (List Literal)) → given state (as_ ++ bs) ≡ given (given state as_) bs
@@ -48,10 +51,6 @@ pub record IsLeft (start : CheckerState) (all : List (List Literal)) (state : Ch
   pub given : given state rest ≡ given start all
   pub can : CanBeGiven state rest
 
--- nothing is given yet
-pub left_all : (start : CheckerState) (all : List (List Literal)) → CanBeGiven start all → IsLeft start all start all
-left_all start all can = record { given = refl; can = can }
-
 -- some more were given
 pub left_more : (start : CheckerState) (all : List (List Literal)) (state next : CheckerState) (rest some after : List (List Literal)) → IsLeft start all state rest → rest ≡ some ++ after
     → next ≡ given state some → IsLeft start all next after
@@ -66,17 +65,10 @@ left_more start all state next rest some after left is more =
 pub left_next : (start : CheckerState) (all : List (List Literal)) (state : CheckerState) (rest some after : List (List Literal)) → IsLeft start all state rest → rest ≡ some ++ after → CanBeGiven state some
 left_next start all state rest some after left is = first_given state some after (subst (CanBeGiven state) is left.can)
 
--- all were given
-pub left_none : (start : CheckerState) (all : List (List Literal)) (state : CheckerState) (rest : List (List Literal)) → IsLeft start all state rest → rest ≡ [] → state ≡ given start all
-left_none start all state rest left none = sym (ap (given state) none) ∙ left.given
-
 -- ---- lists of clauses
 
 pub clauses_next : (clauses : List (List Literal)) (i : ℕ) (c : List Literal) → i < length clauses → c ≡ slice_index_or clauses i c → drop i clauses ≡ (c ∷ []) ++ drop (i + 1) clauses
 clauses_next clauses i c inside is = at_drop_more (λ (cs : List (List Literal)). cs) clauses i c inside ∙ ap (λ (d : List Literal). d ∷ drop (i + 1) clauses) (sym is)
-
-pub clauses_done : (clauses : List (List Literal)) (i : ℕ) → length clauses ≤ i → drop i clauses ≡ []
-clauses_done clauses i past = at_drop_all (λ (cs : List (List Literal)). cs) clauses i past
 
 -- ---- the nodes of a circuit
 
@@ -91,9 +83,6 @@ module _ (numbers : List ℕ) (N : Circuit) where
       ∙ ap (λ (net : ℕ). written (node_gates numbers (slice_index_or numbers (node_net N j) 0) (node N j)) ++ written (nodes_gates numbers net (drop (j + 1) N.nodes)))
       (let e : node_net N j + 1 ≡ node_net N (j + 1) = omega arith in e)
 
-  pub nodes_done : (j : ℕ) → length N.nodes ≤ j → nodes_left j ≡ []
-  nodes_done j past = ap written (at_drop_all (nodes_gates numbers (node_net N j)) N.nodes j past)
-
 module _ (numbers right : List ℕ) (N : Circuit) (cells : List Cell) where
   abbrev pub cells_left : ℕ → List (List Literal)
   cells_left j = written (failing_gates numbers right N.inputs cells j (node_net N j) (drop j N.nodes))
@@ -107,9 +96,6 @@ module _ (numbers right : List ℕ) (N : Circuit) (cells : List Cell) where
       ∙ written-append (of_cell j) (failing_gates numbers right N.inputs cells (j + 1) (node_net N j + 1) (drop (j + 1) N.nodes))
       ∙ ap (λ (net : ℕ). written (of_cell j) ++ written (failing_gates numbers right N.inputs cells (j + 1) net (drop (j + 1) N.nodes)))
       (let e : node_net N j + 1 ≡ node_net N (j + 1) = omega arith in e)
-
-  pub cells_done : (j : ℕ) → length N.nodes ≤ j → cells_left j ≡ []
-  cells_done j past = ap written (at_drop_all (failing_gates numbers right N.inputs cells j (node_net N j)) N.nodes j past)
 
 -- ---- lists of clauses before they are written
 
@@ -165,3 +151,15 @@ module _ (s : CheckerState) (A B F : List (List Literal)) (all : CanBeGiven s (w
   pub three_given : (t u v : CheckerState) (a b f : List (List Literal)) → a ≡ A → b ≡ B → f ≡ F → t ≡ given s (written a) → u ≡ given t (written b) → v ≡ given u (written f)
       → v ≡ given s (written (A ++ B ++ F))
   three_given t u v a b f is also last e g h = two_given s (A ++ B) F all u v (A ++ B) f refl last (two_given s A B first_two t u a b is also e g) h
+
+-- ---- what is given is implied
+
+given_is_sound : (formula : List (List Literal)) (state : CheckerState) (clauses : List (List Literal)) → IsSound formula state → IsSound (formula ++ clauses) (given state clauses)
+given_is_sound formula state [] sound = subst (λ (f : List (List Literal)). IsSound f state) (sym (append-nil formula)) sound
+given_is_sound formula state (c ∷ clauses) sound =
+    subst (λ (f : List (List Literal)). IsSound f (given (with_clause state (state.last + 1) c) clauses)) (append_assoc formula (c ∷ []) clauses)
+    (given_is_sound (formula ++ c ∷ []) (with_clause state (state.last + 1) c) clauses (sound_given formula state (state.last + 1) c sound))
+
+-- a checker that holds the question is sound for it
+pub question_is_sound : (C N : Circuit) (P : CodePlan) → IsSound (question C N P) (question_state C N P)
+question_is_sound C N P = given_is_sound [] (empty_checker (length (variables C N P))) (question C N P) (sound_empty [] (length (variables C N P)))

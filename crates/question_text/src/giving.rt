@@ -2,6 +2,7 @@
 ghost use Rattle.std.specs.Prelude.{◌≡◌, ◌+◌, ◌<◌, ◌≤◌, ◌^◌, ◌++◌, length, slice_index, take, IfOk, OnOk};
 ghost use Rattle.fault_secure.specs.Circuit.{node, node_net};
 ghost use Rattle.tsc_net.specs.PlanView.{net_numbers};
+ghost use Rattle.refutations.specs.Checking.{IsSound};
 ghost use Rattle.exact_question.specs.Laws.{IsAsked};
 ghost use Rattle.exact_question.specs.Question.{question, variables};
 ghost use Rattle.exact_question.specs.Rows.{written};
@@ -23,7 +24,7 @@ use std::alloc::{AllocError, Global};
 use tsc_net::{Group, NetId, Netlist, Plan};
 
 /// A checker of refutations that holds the clauses of the exact question of a source and a netlist with its plan under parity, with the
-/// numbers from 1 on. It takes time linear in their literals but for the clause of a cover's rows, of which each literal is looked up
+/// numbers from 1 on, and is sound for them. It takes time linear in their literals but for the clause of a cover's rows, of which each literal is looked up
 /// among those before it.
 ///
 /// # Errors
@@ -39,6 +40,7 @@ pub fn question_checker(
     requires few { length (variables source.now.circuit net.now.circuit plan.now) < 2 ^ 32 }
     requires few_clauses { length (question source.now.circuit net.now.circuit plan.now) < 2 ^ 32 }
     ensures given { IfOk result (λ checker. checker ≡ question_state source.now.circuit net.now.circuit plan.now) }
+    ensures sound { IfOk result (λ checker. IsSound (question source.now.circuit net.now.circuit plan.now) checker) }
 {
     let groups = plan.groups.as_slice();
     let numbers = numbers_of(alloc, source, net, groups)?;

@@ -3,6 +3,7 @@ ghost use Rattle.std.specs.Prelude.{◌≡◌, ◌+◌, ◌<◌, ◌^◌, ◌++�
 ghost use Rattle.std.specs.List.{flat_map};
 ghost use Rattle.exact_question.specs.Laws.{IsAsked};
 ghost use Rattle.exact_question.specs.Question.{question, variables};
+ghost use Rattle.question_text.specs.Giving.{LiteralsAreWithin};
 ghost use Rattle.question_text.specs.Groups.{AreGroups};
 ghost use Rattle.question_text.specs.Lines.{comment_lines};
 ghost use Rattle.question_text.specs.Text.{clause_line, header, question_text};
@@ -33,6 +34,7 @@ pub fn question_text(
     requires asked { IsAsked source.now.circuit net.now.circuit plan.now }
     requires few { length (variables source.now.circuit net.now.circuit plan.now) < 2 ^ 32 }
     ensures text { IfOk result (λ text. text ≡ question_text source.now net.now plan.now) }
+    ensures within { IfOk result (λ text. LiteralsAreWithin source.now.circuit net.now.circuit plan.now) }
 {
     let groups = plan.groups.as_slice();
     let numbers = numbers_of(alloc, source, net, groups)?;

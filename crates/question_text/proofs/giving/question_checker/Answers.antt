@@ -4,7 +4,7 @@ use Rattle.std.proofs.lemmas.List.{take-map}
 use Rattle.fault_secure.specs.Circuit.{Circuit}
 use Rattle.fault_secure.specs.CodePlan.{CodePlan}
 use Rattle.refutations.specs.declared.literal.Literal.{Literal}
-use Rattle.refutations.specs.Checking.{CheckerState, empty_checker}
+use Rattle.refutations.specs.Checking.{CheckerState, IsSound, empty_checker}
 use Rattle.tsc_net.specs.PlanView.{net_numbers, plan_of}
 use Rattle.tsc_net.specs.declared.ids.NetId.{NetId}
 use Rattle.tsc_net.specs.declared.plan.Group.{Group}
@@ -12,10 +12,11 @@ use Rattle.exact_question.specs.Laws.{IsAsked}
 use Rattle.exact_question.specs.Question.{question, variables}
 use Rattle.exact_question.specs.Rows.{written}
 use Rattle.question_text.specs.declared.numbers.Numbers.{Numbers}
-use Rattle.question_text.specs.Giving.{CanBeGiven, given}
+use Rattle.question_text.specs.Giving.{CanBeGiven, given, question_state}
 use Rattle.question_text.specs.Groups.{AreGroups}
 use Rattle.question_text.specs.Whole.{clauses_over, numbers_of}
 use Rattle.question_text.proofs.Below.{literals_are_within}
+use Rattle.question_text.proofs.Given.{question_is_sound}
 use Rattle.question_text.proofs.TextLaw.{groups_kept, count_is, question_is}
 use Rattle.question_text.proofs.giving.question_checker.Goals as goal
 
@@ -95,6 +96,6 @@ returns c =
     subst (AreGroups P) (sym c.as_slice-groups.ensures.whole) (groups_kept c.plan.inside P c.plan.view_is c.plan.invariant c.requires.asked.parity) in
     let checker = checker_is C N P groups c.requires.asked are c.in_ok-numbers.numbers c.in_ok-checker.checker c.in_ok-numbers.ensures.numbers c.in_ok-checker.ensures.empty in
     let clauses = clauses_are C N P groups c.requires.asked are c.in_ok-numbers.numbers (plan_of c.plan.inside) c.outputs.result.now c.in_ok-numbers.ensures.numbers c.plan.view_is c.outputs.ensures.outputs in
-    record {
-      given = c.in_ok-give_question.ensures.given ∙ ap (given c.in_ok-checker.checker) clauses ∙ ap (λ (s : CheckerState). given s (question C N P)) checker;
-    }
+    let is : c.give_question.new.checker ≡ question_state C N P =
+    c.in_ok-give_question.ensures.given ∙ ap (given c.in_ok-checker.checker) clauses ∙ ap (λ (s : CheckerState). given s (question C N P)) checker in
+    record { given = is; sound = subst (IsSound (question C N P)) (sym is) (question_is_sound C N P) }
