@@ -1,0 +1,5 @@
+pub mod Shown
+pub mod OwnAlarms
+pub mod JoinedParts
+pub mod HeardAlarms
+pub mod SoleParts

@@ -1,0 +1,4 @@
+pub mod PartSource
+pub mod SourcesSecure
+pub mod RegisterJoints
+pub mod SolePart
