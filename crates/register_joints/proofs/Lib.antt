@@ -3,3 +3,4 @@ pub mod OwnAlarms
 pub mod JoinedParts
 pub mod HeardAlarms
 pub mod SoleParts
+pub mod SmallJoints

@@ -2,3 +2,4 @@ pub mod PartSource
 pub mod SourcesSecure
 pub mod RegisterJoints
 pub mod SolePart
+pub mod SmallJoint
