@@ -1,10 +1,10 @@
 -- The small joint of both kinds is secure.
-use Rattle.std.proofs.Common.{◌≡◌, ℕ, zero, suc, ◌+◌, ◌*◌, ◌<◌, ◌≤◌, Bool, true, false, ◌&&◌, List, [], ◌∷◌, map, drop, length, slice_index, slice_index_or, refl, sym, ap, ap₂, subst, ◌∙◌, arith}
+use Rattle.std.proofs.Common.{◌≡◌, ℕ, zero, suc, ◌+◌, ◌<◌, ◌≤◌, Bool, true, false, ◌&&◌, List, [], ◌∷◌, map, drop, length, slice_index, slice_index_or, refl, sym, ap, ap₂, subst, ◌∙◌, arith}
 use Rattle.std.proofs.lemmas.List.{get_or-drop, length-drop}
 use Rattle.std.proofs.lemmas.List.Elements.{All-nil, All-cons}
 use Rattle.tsc_cover.specs.Cover.{truth}
 use Rattle.tsc_bits.specs.Counting.{differ}
-use Rattle.fault_secure.specs.Circuit.{Circuit, NodeOf, no_node, gate, node, node_net, pin_net, nets, bit}
+use Rattle.fault_secure.specs.Circuit.{Circuit, NodeOf, no_node, gate, node, node_net, pin_net, bit}
 use Rattle.fault_secure.specs.StuckAt.{NoFault}
 use Rattle.fault_secure.specs.Settle.{Acyclic, read_values}
 use Rattle.fault_secure.specs.Stretch.{StretchSettles}

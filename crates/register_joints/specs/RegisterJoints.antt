@@ -1,12 +1,14 @@
 -- Parts of both kinds, for logic and for circuits with registers, make a secure whole: the statements of the laws.
 use Rattle.std.specs.Prelude.{◌≡◌, ℕ, ◌<◌, Bool, List, length, IsTrue}
 use Rattle.tsc_bits.specs.Counting.{odd}
-use Rattle.fault_secure.specs.Circuit.{Circuit, nets}
+use Rattle.fault_secure.specs.Circuit.{Circuit, latch_net, nets}
 use Rattle.fault_secure.specs.Settle.{Acyclic}
 use Rattle.fault_secure.specs.Stretch.{StretchSettles}
 use Rattle.fault_secure.specs.CodePlan.{CodePlan, RailsAgree}
 use Rattle.fault_secure.specs.Logic.{Logic}
 use Rattle.fault_secure.specs.CellSecure.{IsCellSecure}
+use Rattle.fault_secure.specs.FailingCell.{RunsBut}
+use Rattle.fault_secure.specs.FaultSecure.{at_step}
 use Rattle.joint_laws.specs.Parts.{as_part}
 use Rattle.joint_laws.specs.Joint.{JointOf, IsJoint, part}
 use Rattle.joint_laws.specs.JointSecure.{JointRailsAgree, IsJointCellSecure, IsJointFaultSecure}
@@ -83,3 +85,14 @@ WatchesJoin = (S : Circuit) (J : JointOf) (i : ℕ) (watches : List (List ℕ)) 
     → RegisterCheckerSettles (part J i).circuit (record { plan = (part J i).plan; watches = watches }) (part_in J i v)
     → DriversSettle (part J i).circuit check (part_in J i v)
     → IsTrue (odd (differences (part J i).circuit own copy registers (part_in J i v))) → JointRailsAgree J v
+
+-- so where one latch of the joint fails in any way: at each step at which an odd number of a part's registers differs from their copies, the
+-- joint's rails agree at that very step
+abbrev pub WatchesHearLatches : Type 0
+WatchesHearLatches = (S : Circuit) (J : JointOf) (i : ℕ) (watches : List (List ℕ)) (own copy : Placing) (registers : List ℕ) (check : ℕ)
+    (latch : ℕ) (xs us : List (List Bool)) (step : ℕ)
+    → IsJoint J → i < length J.parts
+    → DecidesGroups (part J i).circuit (record { plan = (part J i).plan; watches = watches })
+    → IsWatchOf S (part J i).circuit (record { plan = (part J i).plan; watches = watches }) own copy registers check
+    → latch < length J.circuit.latches → RunsBut J.circuit (latch_net J.circuit latch) xs us → step < length xs
+    → IsTrue (odd (differences (part J i).circuit own copy registers (part_in J i (at_step us step)))) → JointRailsAgree J (at_step us step)
