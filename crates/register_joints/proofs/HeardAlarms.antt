@@ -13,6 +13,7 @@ use Rattle.joint_laws.specs.Joint.{part}
 use Rattle.joint_laws.proofs.PartBits.{part_settles}
 use Rattle.joint_laws.proofs.JoinedSteps.{rails_join}
 use Rattle.register_laws.proofs.WatchParity.{watch_is_heard}
+use Rattle.register_joints.proofs.OwnAlarms.{alike_rails}
 use Rattle.register_joints.specs.RegisterJoints.{part_in, AlarmsJoin, WatchesJoin, WatchesHearLatches}
 
 -- where the tree works, an alarm of a part is one of the joint
@@ -20,9 +21,9 @@ pub alarms_join : AlarmsJoin
 alarms_join J i v is h tree agree = rails_join J is i h v (record { sized = tree.sized; settles = tree.settles }) agree
 
 pub watches_join : WatchesJoin
-watches_join S J i watches own copy registers check v is h decides watch tree checker drivers differ =
-    alarms_join J i v is h tree
-    (watch_is_heard S (part J i).circuit (record { plan = (part J i).plan; watches = watches }) own copy registers check (part_in J i v) decides watch checker drivers differ)
+watches_join S J i P own copy registers check v is h alike decides watch tree checker drivers differ =
+    alarms_join J i v is h tree (alike_rails P.plan (part J i).plan alike (part_in J i v)
+    (watch_is_heard S (part J i).circuit P own copy registers check (part_in J i v) decides watch checker drivers differ))
 
 -- ---- one failing latch
 
@@ -67,13 +68,13 @@ part_step J C at first_latch first_node m x s v settled =
 
 -- at each step at which an odd number of registers differs the rails agree, where one latch of the joint fails
 pub watches_hear_latches : WatchesHearLatches
-watches_hear_latches S J i watches own copy registers check latch xs us step is h decides watch low run within differ =
+watches_hear_latches S J i P own copy registers check latch xs us step is h alike decides watch low run within differ =
     let there = step_but J.circuit (latch_net J.circuit latch) (init_state J.circuit) xs us run step within in
     let v = at_step us step in
     let settled = settles_held J.circuit latch there.input (bit there.state) (at_step us step) low there.settles in
     let alone = part_step J.circuit (part J i).circuit (part J i).at (part J i).first_latch (part J i).first_node (is.stand i h) there.input
     (held J.circuit (at_step us step)) (at_step us step) settled in
-    watches_join S J i watches own copy registers check v is h decides watch
+    watches_join S J i P own copy registers check v is h alike decides watch
     (record { sized = settled.sized; settles = record { nodes = λ j from below. settled.nodes j below } })
     (record { settles = λ q k checker. alone.nodes q k })
     (record { settles = λ q k depends. alone.nodes q k }) differ

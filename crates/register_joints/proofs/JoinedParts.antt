@@ -25,7 +25,7 @@ use Rattle.register_joints.specs.PartSource.{PartSource, Logical, Registers, IsP
 use Rattle.register_joints.specs.SourcesSecure.{NoSilentOutput}
 use Rattle.register_joints.specs.RegisterJoints.{SecurePartsJoin, FaultSecurePartsJoin, SourceCellsCoverFaults, CellSecureIsPart, RegisterSecureIsPart, RegisterFaultSecureIsPart, LogicalCellsJoin, LogicalFaultsJoin}
 use Rattle.register_joints.proofs.Shown.{shown_over, quiet_joins}
-use Rattle.register_joints.proofs.OwnAlarms.{OwnAlarm, OwnFollows, follows_joins, own_joins, right_joins, part_source_runs, part_one_run, part_follows, part_quiet, fault_part_source_runs, fault_part_one_run, fault_part_follows, fault_part_quiet}
+use Rattle.register_joints.proofs.OwnAlarms.{alike_silent, OwnAlarm, OwnFollows, follows_joins, own_joins, right_joins, part_source_runs, part_one_run, part_follows, part_quiet, fault_part_source_runs, fault_part_one_run, fault_part_follows, fault_part_quiet}
 
 -- a run with a failing cell has valuations of the circuit's size
 sized_but : (N : Circuit) (cell : ℕ) (s : List Bool) (xs us : List (List Bool)) → RunsButFrom N cell s xs us
@@ -53,7 +53,8 @@ sized_under N f s (here ∷ w) (x ∷ xs) (u ∷ us) h (suc step) l = sized_unde
 own_cell : (source : PartSource) (N : Circuit) (P : CodePlan) (c : ℕ) (w : List Bool) (xs vs us : List (List Bool)) → IsPartSecure source N P → IsCell N c
     → Runs N NoFault w xs vs → RunsBut N c xs us → OwnAlarm source N P xs vs us
 own_cell (Logical M) N P c w xs vs us secure is run failing = secure.alarmed c w xs vs us is run failing
-own_cell (Registers S) N P c w xs vs us secure is run failing = λ m ws own. secure.secure.alarmed c m w xs ws vs us is own run failing
+own_cell (Registers S) N P c w xs vs us secure is run failing = λ m ws own.
+    alike_silent secure.whole.plan P secure.alike S N xs ws us (secure.secure.alarmed c m w xs ws vs us is own run failing)
 
 -- a joint of parts that are secure for their sources is secure for all of them, whichever cell of it fails
 pub secure_parts_join : SecurePartsJoin
@@ -131,7 +132,8 @@ part_fault J is i h (Pin driver index held) listed found = record {
 own_fault : (source : PartSource) (N : Circuit) (P : CodePlan) (f : StuckAt) (w : List Bool) (xs vs us : List (List Bool)) → IsPartFaultSecure source N P
     → IsTrue (is_listed N f) → Runs N NoFault w xs vs → Runs N f w xs us → OwnAlarm source N P xs vs us
 own_fault (Logical M) N P f w xs vs us secure listed run held = (secure.flagged f w xs vs us listed run held).no_silent_error
-own_fault (Registers S) N P f w xs vs us secure listed run held = λ m ws own. secure.secure.alarmed f w m w xs ws vs us listed own run held
+own_fault (Registers S) N P f w xs vs us secure listed run held = λ m ws own.
+    alike_silent secure.whole.plan P secure.alike S N xs ws us (secure.secure.alarmed f w m w xs ws vs us listed own run held)
 
 -- a joint of parts that are secure for their sources against each listed fault is so for all of them
 pub fault_secure_parts_join : FaultSecurePartsJoin
@@ -195,11 +197,12 @@ pub cell_secure_is_part : CellSecureIsPart
 cell_secure_is_part M N P secure = cell_secure_is_alarm_secure M N P secure
 
 pub register_secure_is_part : RegisterSecureIsPart
-register_secure_is_part S N P secure = record { watches = P.watches; secure = register_secure_is_alarm_secure S N P secure }
+register_secure_is_part S N P Q alike secure = record { whole = P; alike = alike; secure = register_secure_is_alarm_secure S N P secure }
 
 pub register_fault_secure_is_part : RegisterFaultSecureIsPart
-register_fault_secure_is_part S N P secure = record {
-  watches = P.watches;
+register_fault_secure_is_part S N P Q alike secure = record {
+  whole = P;
+  alike = alike;
   secure = record {
     source_runs = secure.source_runs;
     one_run = secure.one_run;

@@ -1,7 +1,7 @@
 -- What a part has by itself for its source, whichever kind that is, and what it so gives to the joint.
-use Rattle.std.proofs.Common.{◌≡◌, ℕ, ◌<◌, Bool, List, [], map, length, All, sym, ap, ◌∙◌, inl, refl, arith}
+use Rattle.std.proofs.Common.{◌≡◌, ℕ, ◌<◌, Bool, List, [], map, length, All, sym, ap, ◌∙◌, inl, refl, arith, take, slice_index_or}
 use Rattle.std.proofs.lemmas.List.{length-map, get_or-map}
-use Rattle.fault_secure.specs.Circuit.{Circuit, nets}
+use Rattle.fault_secure.specs.Circuit.{Circuit, nets, bit}
 use Rattle.fault_secure.specs.StuckAt.{NoFault}
 use Rattle.fault_secure.specs.Run.{init_state, Runs, HasOneRun}
 use Rattle.fault_secure.specs.CodePlan.{CodePlan, RailsAgree}
@@ -12,7 +12,7 @@ use Rattle.joint_laws.specs.JointSecure.{inputs_over, run_over}
 use Rattle.joint_laws.proofs.PartRuns.{long_marks}
 use Rattle.joint_laws.proofs.JoinedSteps.{TreeWorksOver, silent_joins, right_stays}
 use Rattle.register_laws.specs.RegisterSecure.{shown}
-use Rattle.register_joints.specs.PartSource.{PartSource, Logical, Registers, HasSourceRuns, IsPartSecure, IsPartFaultSecure}
+use Rattle.register_joints.specs.PartSource.{PartSource, Logical, Registers, HasSourceRuns, IsSeenAlike, IsPartSecure, IsPartFaultSecure}
 use Rattle.register_joints.specs.SourcesSecure.{FollowsInJoint, NoSilentOutput}
 use Rattle.register_joints.proofs.Shown.{shown_over, shown_step, alarm_joins}
 
@@ -26,6 +26,31 @@ abbrev pub OwnAlarm : PartSource → Circuit → CodePlan → List (List Bool) �
 OwnAlarm (Logical M) N P xs vs us = NoSilentError M N P xs vs us
 OwnAlarm (Registers S) N P xs vs us = (m : List Bool) (ws : List (List Bool)) → Runs S NoFault m xs ws
     → (step : ℕ) → step < length xs → (outputs_in N P (at_step us step) ≡ shown S (at_step ws step) → ⊥) → AlarmBy P us step
+
+-- ---- what a joint sees of a plan
+
+alike_outputs : (P Q : CodePlan) → IsSeenAlike P Q → (N : Circuit) (v : List Bool) → outputs_in N Q v ≡ outputs_in N P v
+alike_outputs P Q alike N v = ap (λ n. map (bit v) (take n N.outputs)) (sym alike.outputs)
+
+pub alike_rails : (P Q : CodePlan) → IsSeenAlike P Q → (v : List Bool) → RailsAgree P v → RailsAgree Q v
+alike_rails P Q alike v agree = ap (bit v) (sym alike.rail1) ∙ agree ∙ ap (bit v) alike.rail2
+
+alike_rails_back : (P Q : CodePlan) → IsSeenAlike P Q → (v : List Bool) → RailsAgree Q v → RailsAgree P v
+alike_rails_back P Q alike v agree = ap (bit v) alike.rail1 ∙ agree ∙ ap (bit v) (sym alike.rail2)
+
+alike_alarm : (P Q : CodePlan) → IsSeenAlike P Q → (us : List (List Bool)) (step : ℕ) → AlarmBy P us step → AlarmBy Q us step
+alike_alarm P Q alike us step alarm = record { at = alarm.at; in_time = alarm.in_time; rails_agree = alike_rails P Q alike (at_step us alarm.at) alarm.rails_agree }
+
+-- where no output differs from the source's before the alarm under one plan, none does under the other
+pub alike_silent : (P Q : CodePlan) → IsSeenAlike P Q → (S N : Circuit) (xs ws us : List (List Bool))
+    → ((step : ℕ) → step < length xs → (outputs_in N P (at_step us step) ≡ shown S (at_step ws step) → ⊥) → AlarmBy P us step)
+    → (step : ℕ) → step < length xs → (outputs_in N Q (at_step us step) ≡ shown S (at_step ws step) → ⊥) → AlarmBy Q us step
+alike_silent P Q alike S N xs ws us silent step within wrong =
+    alike_alarm P Q alike us step (silent step within (λ right. wrong (alike_outputs P Q alike N (at_step us step) ∙ right)))
+
+alike_follows : (P Q : CodePlan) → IsSeenAlike P Q → (S N : Circuit) (ws vs : List (List Bool)) → map (outputs_in N P) vs ≡ map (shown S) ws
+    → map (outputs_in N Q) vs ≡ map (shown S) ws
+alike_follows P Q alike S N ws vs follows = ap (λ n. map (λ v. map (bit v) (take n N.outputs)) vs) (sym alike.outputs) ∙ follows
 
 -- equal lists of outputs are equal at each step
 same_at : (f g : List Bool → List Bool) (vs ws : List (List Bool)) (step : ℕ) → map f vs ≡ map g ws → step < length vs → step < length ws
@@ -81,15 +106,15 @@ module _ (N : Circuit) (P : CodePlan) where
 
   pub part_follows : (source : PartSource) → IsPartSecure source N P → (w : List Bool) (xs vs : List (List Bool)) → Runs N NoFault w xs vs → OwnFollows source N P xs vs
   part_follows (Logical M) secure w xs vs run = secure.follows w xs vs run
-  part_follows (Registers S) secure w xs vs run = λ m ws own. secure.secure.follows m w xs ws vs own run
+  part_follows (Registers S) secure w xs vs run = λ m ws own. alike_follows secure.whole.plan P secure.alike S N ws vs (secure.secure.follows m w xs ws vs own run)
 
   -- the source has a run over the inputs, beside which the part's run is calm
   pub part_quiet : (source : PartSource) → IsPartSecure source N P → (w : List Bool) (xs vs : List (List Bool)) → Runs N NoFault w xs vs
       → All (λ v. RailsAgree P v → ⊥) vs
   part_quiet (Logical M) secure w xs vs run = λ k d low. (secure.quiet w xs vs run k d low).rails_differ
-  part_quiet (Registers S) secure w xs vs run = λ k d low.
+  part_quiet (Registers S) secure w xs vs run = λ k d low agree.
       let own = secure.secure.source_runs w xs (long_marks N NoFault (init_state N) w xs vs run).0 in
-      (secure.secure.quiet w w xs own.run vs own.runs run k d low).rails_differ
+      (secure.secure.quiet w w xs own.run vs own.runs run k d low).rails_differ (alike_rails_back secure.whole.plan P secure.alike (slice_index_or vs k d) agree)
 
   -- ---- parts that are secure against each listed fault
 
@@ -105,11 +130,11 @@ module _ (N : Circuit) (P : CodePlan) where
   pub fault_part_follows : (source : PartSource) → IsPartFaultSecure source N P → (w : List Bool) (xs vs : List (List Bool)) → Runs N NoFault w xs vs
       → OwnFollows source N P xs vs
   fault_part_follows (Logical M) secure w xs vs run = secure.follows w xs vs run
-  fault_part_follows (Registers S) secure w xs vs run = λ m ws own. secure.secure.follows m w xs ws vs own run
+  fault_part_follows (Registers S) secure w xs vs run = λ m ws own. alike_follows secure.whole.plan P secure.alike S N ws vs (secure.secure.follows m w xs ws vs own run)
 
   pub fault_part_quiet : (source : PartSource) → IsPartFaultSecure source N P → (w : List Bool) (xs vs : List (List Bool)) → Runs N NoFault w xs vs
       → All (λ v. RailsAgree P v → ⊥) vs
   fault_part_quiet (Logical M) secure w xs vs run = λ k d low. (secure.quiet w xs vs run k d low).rails_differ
-  fault_part_quiet (Registers S) secure w xs vs run = λ k d low.
+  fault_part_quiet (Registers S) secure w xs vs run = λ k d low agree.
       let own = secure.secure.source_runs w xs (long_marks N NoFault (init_state N) w xs vs run).0 in
-      (secure.secure.quiet w w xs own.run vs own.runs run k d low).rails_differ
+      (secure.secure.quiet w w xs own.run vs own.runs run k d low).rails_differ (alike_rails_back secure.whole.plan P secure.alike (slice_index_or vs k d) agree)

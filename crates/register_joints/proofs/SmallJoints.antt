@@ -114,7 +114,7 @@ small_acyclic : Acyclic small_circuit
 small_acyclic = record { rank = λ net. net; ranks = record { above = each_pin small_circuit (λ j pin. pin_net small_circuit j pin < node_net small_circuit j) (omega arith) } }
 
 small_parts : (i : ℕ) → i < 2 → IsPartSecure (small_sources i) (part small_joint i).circuit (part small_joint i).plan
-small_parts zero h = register_secure_is_part small_registers small_twin small_register_plan small_twin_is_secure
+small_parts zero h = register_secure_is_part small_registers small_twin small_register_plan twin_member.plan (record { outputs = refl; rail1 = refl; rail2 = refl }) small_twin_is_secure
 small_parts (suc zero) h = cell_secure_is_part (Network small_network) small_netlist small_plan small_is_cell_secure
 small_parts (suc (suc i)) h = absurd (omega arith)
 

@@ -17,7 +17,7 @@ use Rattle.register_laws.specs.RegisterSecure.{IsRegisterSecure, IsRegisterFault
 use Rattle.register_laws.specs.RegisterStructure.{RegisterCheckerSettles, DecidesGroups}
 use Rattle.register_laws.specs.Twin.{Placing}
 use Rattle.register_laws.specs.Watch.{DriversSettle, IsWatchOf, differences}
-use Rattle.register_joints.specs.PartSource.{PartSource, Logical, Registers, IsPartSecure, IsPartFaultSecure}
+use Rattle.register_joints.specs.PartSource.{PartSource, Logical, Registers, IsSeenAlike, IsPartSecure, IsPartFaultSecure}
 use Rattle.register_joints.specs.SourcesSecure.{IsCellSecureForSources, IsFaultSecureForSources}
 
 -- parts that are secure for their sources against any one failing cell make a joint that is so for all of them, whichever cell fails
@@ -40,13 +40,14 @@ SourceCellsCoverFaults = (source : ℕ → PartSource) (J : JointOf) → Acyclic
 abbrev pub CellSecureIsPart : Type 0
 CellSecureIsPart = (M : Logic) (N : Circuit) (P : CodePlan) → IsCellSecure M N P → IsPartSecure (Logical M) N P
 
--- for a circuit with registers: what is secure, whatever its plan watches
+-- for a circuit with registers: what is secure, under a plan in which a joint sees the same
 abbrev pub RegisterSecureIsPart : Type 0
-RegisterSecureIsPart = (S N : Circuit) (P : RegisterPlan) → IsRegisterSecure S N P → IsPartSecure (Registers S) N P.plan
+RegisterSecureIsPart = (S N : Circuit) (P : RegisterPlan) (Q : CodePlan) → IsSeenAlike P.plan Q → IsRegisterSecure S N P → IsPartSecure (Registers S) N Q
 
 -- and against each listed fault
 abbrev pub RegisterFaultSecureIsPart : Type 0
-RegisterFaultSecureIsPart = (S N : Circuit) (P : RegisterPlan) → IsRegisterFaultSecure S N P → IsPartFaultSecure (Registers S) N P.plan
+RegisterFaultSecureIsPart = (S N : Circuit) (P : RegisterPlan) (Q : CodePlan) → IsSeenAlike P.plan Q → IsRegisterFaultSecure S N P
+    → IsPartFaultSecure (Registers S) N Q
 
 -- ---- where every source is logic
 
@@ -74,25 +75,21 @@ abbrev pub AlarmsJoin : Type 0
 AlarmsJoin = (J : JointOf) (i : ℕ) (v : List Bool) → IsJoint J → i < length J.parts → TreeSettles J v
     → RailsAgree (part J i).plan (part_in J i v) → JointRailsAgree J v
 
--- so is the watch of a part: where an odd number of its registers differs from their copies, the joint's rails agree, wherever the part's
--- checker, the check of its watch and the tree work
+-- so is the watch of a part, under a plan in which a joint sees what it sees in the part's: where an odd number of its registers differs from their
+-- copies, the joint's rails agree, wherever the part's checker, the check of its watch and the tree work
 abbrev pub WatchesJoin : Type 0
-WatchesJoin = (S : Circuit) (J : JointOf) (i : ℕ) (watches : List (List ℕ)) (own copy : Placing) (registers : List ℕ) (check : ℕ) (v : List Bool)
-    → IsJoint J → i < length J.parts
-    → DecidesGroups (part J i).circuit (record { plan = (part J i).plan; watches = watches })
-    → IsWatchOf S (part J i).circuit (record { plan = (part J i).plan; watches = watches }) own copy registers check
-    → TreeSettles J v
-    → RegisterCheckerSettles (part J i).circuit (record { plan = (part J i).plan; watches = watches }) (part_in J i v)
-    → DriversSettle (part J i).circuit check (part_in J i v)
+WatchesJoin = (S : Circuit) (J : JointOf) (i : ℕ) (P : RegisterPlan) (own copy : Placing) (registers : List ℕ) (check : ℕ) (v : List Bool)
+    → IsJoint J → i < length J.parts → IsSeenAlike P.plan (part J i).plan
+    → DecidesGroups (part J i).circuit P → IsWatchOf S (part J i).circuit P own copy registers check
+    → TreeSettles J v → RegisterCheckerSettles (part J i).circuit P (part_in J i v) → DriversSettle (part J i).circuit check (part_in J i v)
     → IsTrue (odd (differences (part J i).circuit own copy registers (part_in J i v))) → JointRailsAgree J v
 
 -- so where one latch of the joint fails in any way: at each step at which an odd number of a part's registers differs from their copies, the
 -- joint's rails agree at that very step
 abbrev pub WatchesHearLatches : Type 0
-WatchesHearLatches = (S : Circuit) (J : JointOf) (i : ℕ) (watches : List (List ℕ)) (own copy : Placing) (registers : List ℕ) (check : ℕ)
+WatchesHearLatches = (S : Circuit) (J : JointOf) (i : ℕ) (P : RegisterPlan) (own copy : Placing) (registers : List ℕ) (check : ℕ)
     (latch : ℕ) (xs us : List (List Bool)) (step : ℕ)
-    → IsJoint J → i < length J.parts
-    → DecidesGroups (part J i).circuit (record { plan = (part J i).plan; watches = watches })
-    → IsWatchOf S (part J i).circuit (record { plan = (part J i).plan; watches = watches }) own copy registers check
+    → IsJoint J → i < length J.parts → IsSeenAlike P.plan (part J i).plan
+    → DecidesGroups (part J i).circuit P → IsWatchOf S (part J i).circuit P own copy registers check
     → latch < length J.circuit.latches → RunsBut J.circuit (latch_net J.circuit latch) xs us → step < length xs
     → IsTrue (odd (differences (part J i).circuit own copy registers (part_in J i (at_step us step)))) → JointRailsAgree J (at_step us step)

@@ -12,9 +12,9 @@ use Rattle.register_laws.specs.SmallTwin.{small_source as small_registers, small
 use Rattle.register_joints.specs.PartSource.{PartSource, Logical, Registers}
 use Rattle.register_joints.specs.SourcesSecure.{IsCellSecureForSources, IsFaultSecureForSources}
 
--- the joint has the inputs a and b. The twin reads b, the netlist a and b
+-- the joint has the inputs a and b. The twin reads b, and the netlist a and b. The twin's plan lists no states: to it registers are further inputs
 abbrev pub twin_member : MemberOf
-twin_member = record { circuit = small_twin; plan = small_register_plan.plan; inputs = 1 ∷ [] }
+twin_member = record { circuit = small_twin; plan = record small_register_plan.plan { latches = 0 }; inputs = 1 ∷ [] }
 
 -- the member that is the netlist of a network
 abbrev pub network_member : MemberOf

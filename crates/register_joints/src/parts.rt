@@ -2,8 +2,8 @@
 ghost use Rattle.register_joints.specs.RegisterJoints.{CellSecureIsPart, RegisterFaultSecureIsPart, RegisterSecureIsPart};
 ghost use Rattle.register_joints.specs.SolePart.{SoleIsJoint, SoleIsSecure};
 
-/// What is secure against any one failing cell, for logic or for a circuit with registers, is a secure part. What a plan watches doesn't
-/// matter. For listed faults the same holds of a netlist with registers; for logic it is fault-secure itself.
+/// What is secure against any one failing cell, for logic or for a circuit with registers, is a secure part. With registers only the outputs and
+/// rails of the plan matter. For listed faults the same holds of a netlist with registers; for logic it is fault-secure itself.
 pub fn secure_netlists_are_parts()
     ensures logic { CellSecureIsPart }
     ensures registers { RegisterSecureIsPart }
