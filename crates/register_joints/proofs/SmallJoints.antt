@@ -3,12 +3,13 @@ use Rattle.std.proofs.Common.{◌≡◌, ℕ, zero, suc, ◌+◌, ◌<◌, ◌�
 use Rattle.std.proofs.lemmas.List.{get_or-drop, length-drop}
 use Rattle.std.proofs.lemmas.List.Elements.{All-nil, All-cons}
 use Rattle.tsc_cover.specs.Cover.{truth}
-use Rattle.tsc_bits.specs.Counting.{differ}
+use Rattle.tsc_bits.specs.Counting.{odd, differ}
 use Rattle.fault_secure.specs.Circuit.{Circuit, NodeOf, no_node, gate, node, node_net, pin_net, bit}
 use Rattle.fault_secure.specs.StuckAt.{NoFault}
 use Rattle.fault_secure.specs.Settle.{Acyclic, read_values}
 use Rattle.fault_secure.specs.Stretch.{StretchSettles}
 use Rattle.fault_secure.specs.Logic.{Network}
+use Rattle.fault_secure.specs.FaultSecure.{at_step}
 use Rattle.structure_laws.specs.Toggle.{straight, crossed}
 use Rattle.structure_laws.specs.SmallNetlist.{small_netlist, small_plan, small_source as small_network}
 use Rattle.structure_laws.proofs.Each.{each, each_pin}
@@ -16,10 +17,11 @@ use Rattle.structure_laws.proofs.SmallParity.{small_is_cell_secure}
 use Rattle.joint_laws.specs.Joint.{part}
 use Rattle.joint_laws.specs.JointCircuitLaws.{pairs_differ, IsTree, IsMember}
 use Rattle.joint_laws.proofs.JointIsJoint.{joint_circuit_is_joint}
-use Rattle.register_laws.specs.SmallTwin.{small_source as small_registers, small_twin, small_register_plan}
-use Rattle.register_laws.proofs.SmallTwinCopies.{small_twin_is_secure}
+use Rattle.register_laws.specs.SmallTwin.{small_source as small_registers, small_twin, small_register_plan, small_own, small_copy}
+use Rattle.register_laws.proofs.SmallTwinCopies.{small_is_twin, small_is_watched, small_twin_is_secure}
 use Rattle.register_joints.specs.PartSource.{IsPartSecure}
-use Rattle.register_joints.specs.SmallJoint.{twin_member, network_member, two_pairs, pair_tree, small_joint, small_sources, small_circuit, SmallIsJoined, SmallIsJoint, SmallJointIsSecure, SmallJointIsFaultSecure}
+use Rattle.register_joints.specs.SmallJoint.{twin_member, network_member, two_pairs, pair_tree, small_joint, small_sources, small_circuit, SmallIsJoined, SmallIsJoint, SmallJointIsSecure, SmallJointIsFaultSecure, SmallWatchIsHeard}
+use Rattle.register_joints.proofs.HeardAlarms.{watches_hear_latches}
 use Rattle.register_joints.proofs.JoinedParts.{secure_parts_join, source_cells_cover_faults, cell_secure_is_part, register_secure_is_part}
 
 -- ---- the tree
@@ -123,3 +125,18 @@ small_joint_is_secure = secure_parts_join small_sources small_joint small_is_joi
 
 pub small_joint_is_fault_secure : SmallJointIsFaultSecure
 small_joint_is_fault_secure = source_cells_cover_faults small_sources small_joint (subst Acyclic (sym small_is_joined) small_acyclic) small_joint_is_secure
+
+-- ---- the watch
+
+-- two bits that differ are an odd number of differences
+odd_where : (a b : Bool) → (a ≡ b → ⊥) → odd (differ a b ∷ []) ≡ true
+odd_where true true apart = absurd (apart refl)
+odd_where true false apart = refl
+odd_where false true apart = refl
+odd_where false false apart = absurd (apart refl)
+
+pub small_watch_is_heard : SmallWatchIsHeard
+small_watch_is_heard latch xs us step low run within apart =
+    watches_hear_latches small_registers small_joint 0 small_register_plan small_own small_copy (0 ∷ []) 6 latch xs us step small_is_joint (omega arith)
+    (record { outputs = refl; rail1 = refl; rail2 = refl }) small_is_twin.checker small_is_watched low run within
+    (odd_where (bit (at_step us step) 2) (bit (at_step us step) 3) apart)

@@ -1,12 +1,15 @@
 -- A small joint of both kinds: a twin with a watch, for a circuit with one register, and a netlist of one AND gate, for a network, under one pair
 -- of rails. It guards against definitions that nothing meets.
-use Rattle.std.specs.Prelude.{◌≡◌, ℕ, zero, suc, ◌+◌, true, List, [], ◌∷◌, slice_index}
+use Rattle.std.specs.Prelude.{◌≡◌, ℕ, zero, suc, ◌+◌, ◌<◌, Bool, true, List, [], ◌∷◌, length, slice_index}
 use Rattle.tsc_cover.specs.Gates.{and_cover, buf_cover, not_cover, xor_cover}
-use Rattle.fault_secure.specs.Circuit.{Circuit, gate}
+use Rattle.fault_secure.specs.Circuit.{Circuit, gate, bit}
 use Rattle.fault_secure.specs.Logic.{Network}
+use Rattle.fault_secure.specs.FailingCell.{RunsBut}
+use Rattle.fault_secure.specs.FaultSecure.{at_step}
 use Rattle.structure_laws.specs.Toggle.{straight, crossed}
 use Rattle.structure_laws.specs.SmallNetlist.{small_netlist, small_plan, small_source as small_network}
 use Rattle.joint_laws.specs.Joint.{JointOf, IsJoint}
+use Rattle.joint_laws.specs.JointSecure.{JointRailsAgree}
 use Rattle.joint_laws.specs.JointCircuit.{MemberOf, TreeOf, joint_of}
 use Rattle.register_laws.specs.SmallTwin.{small_source as small_registers, small_twin, small_register_plan}
 use Rattle.register_joints.specs.PartSource.{PartSource, Logical, Registers}
@@ -74,3 +77,8 @@ SmallJointIsSecure = IsCellSecureForSources small_sources small_joint
 -- and against each listed fault
 abbrev pub SmallJointIsFaultSecure : Type 0
 SmallJointIsFaultSecure = IsFaultSecureForSources small_sources small_joint
+
+-- and its watch is heard: whichever latch fails in any way, at each step at which the register and its copy differ, the joint's rails agree
+abbrev pub SmallWatchIsHeard : Type 0
+SmallWatchIsHeard = (latch : ℕ) (xs us : List (List Bool)) (step : ℕ) → latch < 2 → RunsBut small_joint.circuit (2 + latch) xs us → step < length xs
+    → (bit (at_step us step) 2 ≡ bit (at_step us step) 3 → ⊥) → JointRailsAgree small_joint (at_step us step)
