@@ -171,7 +171,8 @@ are_listed lines latches fit none = by latches refl
     by zero e = e
     by (suc n) e = absurd (omega (arith, (fit.some (omega arith)).0, weightless (state_words lines) none))
 
-none_pair : (a b : Option BlifError) → first_of_section a b ≡ None → (a ≡ None) × (b ≡ None)
+-- of two refusals of a section that are none together, each is none
+pub none_pair : (a b : Option BlifError) → first_of_section a b ≡ None → (a ≡ None) × (b ≡ None)
 none_pair None b e = (refl, e)
 none_pair (Some a) b e = cc
 
@@ -202,7 +203,8 @@ module _ (lines : List TextLine) (sound : refusal Netlist lines ≡ None) where
   fit : HasFit (length net.circuit.latches) (state_words lines)
   fit = fit_at (code_line lines) planned
 
-  stateless : lists_states lines ≡ false → length net.circuit.latches ≡ 0
+  -- where it lists no states it has no latches
+  pub stateless : lists_states lines ≡ false → length net.circuit.latches ≡ 0
   stateless none = are_listed lines (length net.circuit.latches) fit none
 
   -- to its plan the netlist is as it is
