@@ -3,7 +3,8 @@ use Rattle.std.specs.Prelude.{ℕ, true, List, Option, None, Some}
 use Rattle.tsc_text.specs.Lines.{lines_of}
 use Rattle.blif_read.specs.declared.kinds.Kind.TheVariants.{AnyPlan}
 use Rattle.commands.specs.declared.command.Command.{Command}
-use Rattle.commands.specs.declared.command.Command.TheVariants.{SynthBlif, SynthWatched, SynthKiss, SynthPla, Audit, AuditWide, AuditExact, AuditMapped, AskExact, Faults, Vectors, Sim, Join}
+use Rattle.commands.specs.declared.command.Command.TheVariants.{SynthBlif, SynthWatched, SynthKiss, SynthPla, Audit, AuditWide, AuditExact, AuditMapped, AuditProof, AskExact, Faults, Vectors, Grade, Sim, Join}
+use Rattle.commands.specs.declared.sim_words.SimFault.TheVariants.{NoFault}
 use Rattle.commands.specs.declared.source_format.SourceFormat.{SourceFormat}
 use Rattle.commands.specs.Words.{code_of}
 use Rattle.refusals.specs.declared.ending.Ending.{Ending}
@@ -13,13 +14,15 @@ use Rattle.refusals.specs.declared.limit.OwnLimit.TheVariants.{Rows, Pins}
 use Rattle.refusals.specs.declared.refusal.Refusal.{Refusal}
 use Rattle.refusals.specs.declared.text_refusal.TextRefusal.{TextRefusal}
 use Rattle.text_sections.specs.Refused.{StopsBeyond, text_refusal}
-use Rattle.netlist_answers.specs.Answers.{IsAcceptance, IsFaultList, IsRejection, IsSimulation, IsVectorList}
+use Rattle.netlist_answers.specs.Answers.{IsAcceptance, IsFaultList, IsGradeReply, IsRejection, IsSimulation, IsVectorList}
 use Rattle.netlist_answers.specs.Refused.{audit_refusal, sim_refusal, vectors_refusal}
 use Rattle.wide_answers.specs.WideReply.{IsWideReply, NeedsMoreRows}
 use Rattle.wide_answers.specs.WideSections.{wide_refusal}
 use Rattle.exact_answers.specs.ExactReply.{IsExactReply}
 use Rattle.question_answers.specs.QuestionReply.{IsQuestionReply}
 use Rattle.question_answers.specs.Refused.{question_refusal}
+use Rattle.proof_answers.specs.ProofReply.{IsProofReply}
+use Rattle.proof_answers.specs.Refused.{proof_refusal}
 use Rattle.mapping_answers.specs.MappedReply.{HasWideCoverIn, IsMappedReply}
 use Rattle.mapping_answers.specs.MappedSections.{mapped_refusal}
 use Rattle.joint_answers.specs.JointParts.{join_refusal}
@@ -65,8 +68,10 @@ spec_of (AuditWide rows) = within (Rows rows) (NeedsMoreRows rows) (judged wide_
 spec_of (AuditExact format) = judged (audit_refusal format) (λ ending. IsExactReply ending format)
 spec_of AuditMapped = within Pins HasWideCoverIn (judged mapped_refusal IsMappedReply)
 spec_of AskExact = judged question_refusal IsQuestionReply
+spec_of AuditProof = judged proof_refusal IsProofReply
 spec_of Faults = plain (text_refusal AnyPlan) IsFaultList
 spec_of Vectors = plain vectors_refusal IsVectorList
+spec_of Grade = plain (sim_refusal NoFault) IsGradeReply
 spec_of (Sim fault) = plain (sim_refusal fault) (λ text. IsSimulation fault (lines_of text))
 spec_of Join = plain join_refusal IsJointReply
 

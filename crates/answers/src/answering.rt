@@ -10,7 +10,10 @@ use commands::Command;
 use exact_answers::audit_exactly;
 use joint_answers::joint_in;
 use mapping_answers::audit_mapped;
-use netlist_answers::{Printout, audit_text, finished, listed_netlist, test_vectors};
+use netlist_answers::{
+    Printout, audit_text, finished, graded_netlist, listed_netlist, test_vectors,
+};
+use proof_answers::audit_proof;
 use question_answers::ask_exactly;
 use refusals::Refusal;
 use std::alloc::Global;
@@ -40,8 +43,10 @@ pub fn answer(alloc: Global, command: Command, text: &Bytes) -> Result<Printout,
         Command::AuditExact(format) => Ok(Printout::Whole(audit_exactly(alloc, format, text)?)),
         Command::AuditMapped => Ok(Printout::Whole(audit_mapped(alloc, text)?)),
         Command::AskExact => Ok(Printout::Whole(ask_exactly(alloc, text)?)),
+        Command::AuditProof => Ok(Printout::Whole(audit_proof(alloc, text)?)),
         Command::Faults => Ok(Printout::FaultList(listed_netlist(alloc, text)?)),
         Command::Vectors => Ok(Printout::VectorList(test_vectors(alloc, text)?)),
+        Command::Grade => Ok(Printout::GradeList(graded_netlist(alloc, text)?)),
         Command::Sim(_) => unreachable!(),
         Command::Join => Ok(Printout::Joint(joint_in(alloc, text)?)),
     }

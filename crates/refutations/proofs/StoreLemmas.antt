@@ -153,16 +153,21 @@ pub held_removed : (last : ℕ) (es : List Entry) (pool : List Literal) (place :
 held_removed last es pool place held =
     let sized = length-set es place (removed (entry es place)) in record {
       rising = λ j k before below. let a = (same_parts es place j).number in let b = (same_parts es place k).number in let h = held.rising j k before (omega arith) in omega arith;
+      above = λ k below. let a = (same_parts es place k).number in let h = held.above k (omega arith) in omega arith;
       below = λ k below. let a = (same_parts es place k).number in let h = held.below k (omega arith) in omega arith;
       inside = λ k below. let a = (same_parts es place k).start in let b = (same_parts es place k).count in let h = held.inside k (omega arith) in omega arith;
+      ordered = λ j k before below. let a = (same_parts es place j).start in let b = (same_parts es place j).count in let d = (same_parts es place k).start in
+          let h = held.ordered j k before (omega arith) in omega arith;
     }
 
 -- with more literals in the pool
 pub held_more : (last : ℕ) (es : List Entry) (pool more : List Literal) → IsHeld last es pool → IsHeld last es (pool ++ more)
 held_more last es pool more held = record {
   rising = held.rising;
+  above = held.above;
   below = held.below;
   inside = λ k below. let h = held.inside k below in omega (arith, length-append pool more);
+  ordered = held.ordered;
 }
 
 -- the entry of a clause at the end of the pool
@@ -179,6 +184,10 @@ held_push last es pool number literals held above = record {
       (λ (past : length es ≤ k). let is : k ≡ length es = omega (arith, sized) in let a = old j (omega arith) in let h = held.below j (omega arith) in
       subst (λ (e : Entry). e.number < (entry (es ++ added number pool literals ∷ []) k).number) (sym a) (subst (λ (e : Entry). (entry es j).number < e.number) (sym (new k is)) (omega arith)))
       (cases_lt k (length es));
+  above = λ k below. ⊎_elim
+      (λ (inside : k < length es). let h = held.above k inside in subst (λ (e : Entry). 0 < e.number) (sym (old k inside)) h)
+      (λ (past : length es ≤ k). let is : k ≡ length es = omega (arith, sized) in subst (λ (e : Entry). 0 < e.number) (sym (new k is)) (omega arith))
+      (cases_lt k (length es));
   below = λ k below. ⊎_elim
       (λ (inside : k < length es). let h = held.below k inside in subst (λ (e : Entry). e.number ≤ number) (sym (old k inside)) (omega arith))
       (λ (past : length es ≤ k). let is : k ≡ length es = omega (arith, sized) in subst (λ (e : Entry). e.number ≤ number) (sym (new k is)) (omega arith))
@@ -187,6 +196,13 @@ held_push last es pool number literals held above = record {
       (λ (inside : k < length es). let h = held.inside k inside in subst (λ (e : Entry). e.start + e.count ≤ length (pool ++ literals)) (sym (old k inside)) (omega (arith, length-append pool literals)))
       (λ (past : length es ≤ k). let is : k ≡ length es = omega (arith, sized) in
       subst (λ (e : Entry). e.start + e.count ≤ length (pool ++ literals)) (sym (new k is)) (omega (arith, length-append pool literals)))
+      (cases_lt k (length es));
+  ordered = λ j k before below. ⊎_elim
+      (λ (inside : k < length es). let a = old j (omega arith) in let b = old k inside in let h = held.ordered j k before inside in
+      subst (λ (e : Entry). e.start + e.count ≤ (entry (es ++ added number pool literals ∷ []) k).start) (sym a) (subst (λ (e : Entry). (entry es j).start + (entry es j).count ≤ e.start) (sym b) h))
+      (λ (past : length es ≤ k). let is : k ≡ length es = omega (arith, sized) in let a = old j (omega arith) in let h = held.inside j (omega arith) in
+      subst (λ (e : Entry). e.start + e.count ≤ (entry (es ++ added number pool literals ∷ []) k).start) (sym a)
+      (subst (λ (e : Entry). (entry es j).start + (entry es j).count ≤ e.start) (sym (new k is)) h))
       (cases_lt k (length es));
 }
   where
@@ -248,7 +264,7 @@ held_added last number start count es es' pool literals pool' held above stands 
     (subst (λ (x : List Entry). IsHeld number x (pool ++ literals)) (sym shape) (held_push last es pool number literals held above))
 
 -- within a list it doesn't matter what stands for an item past its end
-same_default : (es : List Entry) (k : ℕ) (d e : Entry) → k < length es → slice_index_or es k d ≡ slice_index_or es k e
+pub same_default : (es : List Entry) (k : ℕ) (d e : Entry) → k < length es → slice_index_or es k d ≡ slice_index_or es k e
 same_default [] k d e inside = absurd (omega arith)
 same_default (x ∷ es) zero d e inside = refl
 same_default (x ∷ es) (suc k) d e inside = same_default es k d e (omega arith)
@@ -278,6 +294,9 @@ module _ (last number place : ℕ) (es es' : List Entry) (pool : List Literal) (
   removed_left =
       ap (λ (f : Entry). clauses_in pool (slice_set es place (removed f))) read_is
       ∙ (clauses_in-removed pool es number place held.rising present_here ∙ ap (λ (o : ClauseList). without o.clauses number) view)
+
+  pub removed_held : IsHeld last (slice_set es place (removed e)) pool
+  removed_held = subst (λ (f : Entry). IsHeld last (slice_set es place (removed f)) pool) (sym read_is) (held_removed last es pool place held)
 
 -- what holds, holds where there is an error
 pub on_error : {T E : Type 0} (r : Result T E) (P : Type 0) → P → OnErr r P

@@ -48,8 +48,14 @@ pub record IsPresent (entries : List Entry) (number place : ℕ) : Type 0 where
   pub is : (entry entries place).number ≡ number
   pub alive : (entry entries place).alive ≡ true
 
--- what is true of every list of clauses: entries rise up to the last number, and their literals stand in the pool
+-- what is true of every list of clauses: entries rise from 1 up to the last number, and their literals stand in the pool, one entry's after another's
 pub record IsHeld (last : ℕ) (entries : List Entry) (pool : List Literal) : Type 0 where
   pub rising : IsRising entries
+  pub above : (k : ℕ) → k < length entries → 0 < (entry entries k).number
   pub below : (k : ℕ) → k < length entries → (entry entries k).number ≤ last
   pub inside : (k : ℕ) → k < length entries → (entry entries k).start + (entry entries k).count ≤ length pool
+  pub ordered : (j k : ℕ) → j < k → k < length entries → (entry entries j).start + (entry entries j).count ≤ (entry entries k).start
+
+-- that is true of them, up to some number
+abbrev pub AreHeld : List Entry → List Literal → Type 0
+AreHeld entries pool = (last : ℕ) × IsHeld last entries pool

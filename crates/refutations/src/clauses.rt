@@ -1,7 +1,7 @@
 //! The clauses alive, by their rising numbers.
 ghost use Rattle.std.specs.Prelude.{◌≡◌, ℕ, ◌+◌, ◌<◌, ◌≤◌, ◌++◌, ◌∷◌, [], length, is_some, IfSome, IfNone, OnOk, OnErr, Some, None};
 ghost use Rattle.refutations.specs.Steps.{clause_at};
-ghost use Rattle.refutations.specs.Store.{entry as nth, without, IsRising, IsAbsent, IsPresent};
+ghost use Rattle.refutations.specs.Store.{entry as nth, clauses_in, without, AreHeld, IsAbsent, IsHeld, IsPresent, IsRising};
 
 use crate::literal::Literal;
 use std::alloc::{AllocError, Global};
@@ -18,11 +18,16 @@ pub(crate) struct Entry {
 
 /// Clauses with rising numbers, which may have gaps. A clause is found by a search, and its literals stand in one pool.
 /// Contracts see the greatest number until now, and the clauses alive.
+///
+/// Once a third of entries and pool is of clauses that are not alive, both are made anew, in place: so they take at most
+/// 36 bytes per clause alive and 12 per literal alive, beside the room that a list has to grow.
 #[derive(Drop)]
 pub(crate) struct Clauses {
     last: u32,
     entries: Vec<Entry>,
     pool: Vec<Literal>,
+    /// What the clauses that are not alive take, by `size`.
+    dead: usize,
 }
 
 impl Model for Clauses {
@@ -45,6 +50,7 @@ impl Clauses {
             last: 0,
             entries: Vec::new(alloc),
             pool: Vec::new(alloc),
+            dead: 0,
         }
     }
 
@@ -89,8 +95,19 @@ impl Clauses {
     }
 
     /// Removes the clause with this number, and answers whether there was one.
-    #[tactic(auto, using(crate::proofs::StoreLemmas::held_rules))]
     pub fn remove(&mut self, number: u32) -> bool
+        ensures was { result ≡ is_some (clause_at self.old.clauses number) }
+        ensures without { self.new.clauses ≡ without self.old.clauses number }
+        ensures last { self.new.last ≡ self.old.last }
+    {
+        let was = self.mark(number);
+        self.tidy();
+        was
+    }
+
+    /// Marks the clause with this number as one that isn't alive, and answers whether there was one.
+    #[tactic(auto, using(crate::proofs::StoreLemmas::held_rules))]
+    fn mark(&mut self, number: u32) -> bool
         ensures was { result ≡ is_some (clause_at self.old.clauses number) }
         ensures without { self.new.clauses ≡ without self.old.clauses number }
         ensures last { self.new.last ≡ self.old.last }
@@ -105,10 +122,53 @@ impl Clauses {
                     start: entry.start,
                     count: entry.count,
                 };
+                self.dead = self.dead.saturating_add(size(1, entry.count));
                 true
             }
         }
     }
+
+    /// Makes entries and pool anew where more than a third of them is of clauses that aren't alive, so that each literal
+    /// is moved a few times at most for each that was removed.
+    fn tidy(&mut self)
+        ensures same { self.new ≡ self.old }
+    {
+        if self.dead >= 4_096 && self.dead > size(self.entries.len(), self.pool.len()) / 3 {
+            gather(&mut self.entries, &mut self.pool);
+            self.dead = 0;
+        }
+    }
+}
+
+/// What so many entries with so many literals take: an entry counts for three literals.
+fn size(entries: usize, literals: usize) -> usize {
+    entries.saturating_mul(3).saturating_add(literals)
+}
+
+/// Moves what is alive to the front of entries and pool, and lets the rest go. It takes no memory.
+fn gather(entries: &mut Vec<Entry>, pool: &mut Vec<Literal>)
+    requires held { AreHeld entries.old.items pool.old.items }
+    ensures held { (last : ℕ) → IsHeld last entries.old.items pool.old.items → IsHeld last entries.new.items pool.new.items }
+    ensures same { clauses_in pool.new.items entries.new.items ≡ clauses_in pool.old.items entries.old.items }
+{
+    let mut kept = 0;
+    let mut end = 0;
+    for place in 0..entries.len() {
+        let entry = entries[place];
+        if entry.alive {
+            pool.copy_within(entry.start..entry.start + entry.count, end);
+            entries[kept] = Entry {
+                number: entry.number,
+                alive: true,
+                start: end,
+                count: entry.count,
+            };
+            kept += 1;
+            end += entry.count;
+        }
+    }
+    entries.truncate(kept);
+    pool.truncate(end);
 }
 
 /// The place of the entry that is alive with this number.

@@ -72,7 +72,7 @@ static QUESTIONS: [Audit; 8] = [
     ),
 ];
 
-const USAGE: &[u8] = b"tsc: usage: tsc synth|ask|audit|faults|vectors|sim|make|join|help\n";
+const USAGE: &[u8] = b"tsc: usage: tsc synth|ask|audit|faults|vectors|grade|sim|make|join|help\n";
 
 /// Words without a meaning, and texts that are refused as an audit refuses them.
 static REFUSED: [Refused; 6] = [

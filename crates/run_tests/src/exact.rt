@@ -154,7 +154,7 @@ static REFUSED: [Refused; 4] = [
     ),
 ];
 
-const USAGE: &[u8] = b"tsc: usage: tsc synth|ask|audit|faults|vectors|sim|make|join|help\n";
+const USAGE: &[u8] = b"tsc: usage: tsc synth|ask|audit|faults|vectors|grade|sim|make|join|help\n";
 
 #[test]
 fn netlists_are_decided(rt: HostRuntime) -> Result<(), Fail> {

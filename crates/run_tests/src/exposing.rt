@@ -131,14 +131,14 @@ static REFUSED: [Refused; 6] = [
         SAFE_AND2,
         b"",
         2,
-        b"tsc: usage: tsc synth|ask|audit|faults|vectors|sim|make|join|help\n",
+        b"tsc: usage: tsc synth|ask|audit|faults|vectors|grade|sim|make|join|help\n",
     ),
     (
         b"vector",
         SAFE_AND2,
         b"",
         2,
-        b"tsc: usage: tsc synth|ask|audit|faults|vectors|sim|make|join|help\n",
+        b"tsc: usage: tsc synth|ask|audit|faults|vectors|grade|sim|make|join|help\n",
     ),
 ];
 

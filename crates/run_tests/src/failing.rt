@@ -3,7 +3,7 @@ ghost use Rattle.std.specs.Prelude.{None};
 
 use crate::runs::{Faults, NO_FAULTS, after_reading, after_run, is_ended, joined};
 use crate::texts::{
-    AND2, FOLLOWING, FREE_AT_ONE, HELD, SAFE_AND2, SAFE_WIRE, TOGGLE, TWO_STATES, WIRE,
+    AND2, FOLLOWING, FREE_AT_ONE, HELD, PROVED_WIRE, SAFE_AND2, SAFE_WIRE, TOGGLE, TWO_STATES, WIRE,
 };
 use std::alloc::{AllocError, Global};
 use std::test::Fail;
@@ -111,7 +111,7 @@ fn the_sink_is_full(rt: HostRuntime) -> Result<(), Fail> {
 }
 
 /// The words of each command, its text, and what is read after it.
-static COMMANDS: [(&[u8], &[u8], &[u8]); 18] = [
+static COMMANDS: [(&[u8], &[u8], &[u8]); 20] = [
     (b"synth blif berger", AND2, b""),
     (b"synth blif watched", HELD, b""),
     (b"synth kiss mofn", TWO_STATES, b""),
@@ -123,8 +123,10 @@ static COMMANDS: [(&[u8], &[u8], &[u8]); 18] = [
     (b"audit exact kiss", TWO_STATES, TOGGLE),
     (b"audit mapped", SAFE_AND2, SAFE_AND2),
     (b"ask exact", WIRE, SAFE_WIRE),
+    (b"audit proof", WIRE, PROVED_WIRE),
     (b"faults", SAFE_AND2, b""),
     (b"vectors", TOGGLE, b""),
+    (b"grade", TOGGLE, b"0\n1\n0\n"),
     (b"sim none", SAFE_AND2, b"00\n01\n10\n11\n"),
     (b"sim stem t0_1 0 2", TOGGLE, b"0\n1\n0\n1\n"),
     (b"make 5", b"", b""),

@@ -113,7 +113,7 @@ static REFUSED: [Refused; 11] = [
     (b"Join", SAFE_AND2, b"", 2, USAGE),
 ];
 
-const USAGE: &[u8] = b"tsc: usage: tsc synth|ask|audit|faults|vectors|sim|make|join|help\n";
+const USAGE: &[u8] = b"tsc: usage: tsc synth|ask|audit|faults|vectors|grade|sim|make|join|help\n";
 
 #[test]
 fn netlists_are_not_joined(rt: HostRuntime) -> Result<(), Fail> {

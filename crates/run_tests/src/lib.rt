@@ -22,6 +22,8 @@ mod failing;
 #[cfg(test)]
 mod given_answers;
 #[cfg(test)]
+mod graded;
+#[cfg(test)]
 mod joints;
 #[cfg(test)]
 mod limits;
@@ -31,6 +33,8 @@ mod made;
 mod mappings;
 #[cfg(test)]
 mod refused;
+#[cfg(test)]
+mod refuted;
 #[cfg(test)]
 mod runs;
 #[cfg(test)]

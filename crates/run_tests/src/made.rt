@@ -8,7 +8,7 @@ use std::test::Fail;
 use tsc_io::Bytes;
 use tsc_tool::make_text;
 
-const USAGE: &[u8] = b"tsc: usage: tsc synth|ask|audit|faults|vectors|sim|make|join|help\n";
+const USAGE: &[u8] = b"tsc: usage: tsc synth|ask|audit|faults|vectors|grade|sim|make|join|help\n";
 
 /// The reports of some numbers: their counts were worked out by another program, from texts that it drew itself.
 static REPORTS: [Done; 6] = [
@@ -55,7 +55,7 @@ static HELP: Done = (
     b"help",
     b"",
     b"",
-    b"tsc synth blif parity|berger|mofn\ntsc synth kiss berger|mofn\ntsc synth pla parity|berger|mofn\ntsc synth blif|pla duplex\ntsc synth blif watched\ntsc audit blif|kiss|pla\ntsc audit wide ROWS\ntsc audit exact blif|kiss|pla\ntsc audit mapped\ntsc ask exact\ntsc faults\ntsc vectors\ntsc sim none\ntsc sim stem NET V WHEN\ntsc sim pin NET INDEX V WHEN\ntsc make NUMBER\ntsc join\ntsc help\n",
+    b"tsc synth blif parity|berger|mofn\ntsc synth kiss berger|mofn\ntsc synth pla parity|berger|mofn\ntsc synth blif|pla duplex\ntsc synth blif watched\ntsc audit blif|kiss|pla\ntsc audit wide ROWS\ntsc audit exact blif|kiss|pla\ntsc audit mapped\ntsc ask exact\ntsc audit proof\ntsc faults\ntsc vectors\ntsc grade\ntsc sim none\ntsc sim stem NET V WHEN\ntsc sim pin NET INDEX V WHEN\ntsc make NUMBER\ntsc join\ntsc help\n",
 );
 
 /// A source that fails at its first call.

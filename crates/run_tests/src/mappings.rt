@@ -310,14 +310,14 @@ static REFUSED: [Refused; 9] = [
         SAFE_AND2,
         SAFE_AND2,
         2,
-        b"tsc: usage: tsc synth|ask|audit|faults|vectors|sim|make|join|help\n",
+        b"tsc: usage: tsc synth|ask|audit|faults|vectors|grade|sim|make|join|help\n",
     ),
     (
         b"mapped",
         SAFE_AND2,
         SAFE_AND2,
         2,
-        b"tsc: usage: tsc synth|ask|audit|faults|vectors|sim|make|join|help\n",
+        b"tsc: usage: tsc synth|ask|audit|faults|vectors|grade|sim|make|join|help\n",
     ),
 ];
 

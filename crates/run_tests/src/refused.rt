@@ -10,7 +10,7 @@ use std::test::Fail;
 use tsc_io::Bytes;
 use tsc_text::push_number;
 
-const USAGE: &[u8] = b"tsc: usage: tsc synth|ask|audit|faults|vectors|sim|make|join|help\n";
+const USAGE: &[u8] = b"tsc: usage: tsc synth|ask|audit|faults|vectors|grade|sim|make|join|help\n";
 
 const NO_STATES: &[u8] = b"tsc: no states\n";
 

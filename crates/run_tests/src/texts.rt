@@ -18,6 +18,10 @@ pub const WIRE: &[u8] = b".model w\n.inputs a\n.outputs a\n.end\n";
 pub const SAFE_WIRE: &[u8] =
     b".model w\n.inputs a\n.outputs a t0_1 t0_2\n#tsc 1 parity\n#tsc group a t0_0\n.names a t0_0\n0 1\n.names a t0_1\n1 1\n.names t0_0 t0_2\n1 1\n.end\n";
 
+/// The same with a refutation of its exact question.
+pub const PROVED_WIRE: &[u8] =
+    b".model w\n.inputs a\n.outputs a t0_1 t0_2\n#tsc 1 parity\n#tsc group a t0_0\n.names a t0_0\n0 1\n.names a t0_1\n1 1\n.names t0_0 t0_2\n1 1\n.end\n62 d 7 8 9 10 11 12 13 14 15 16 17 18 19 20 21 22 23 24 25 26 27 28 29 30 31 32 33 34 35 36 37 38 39 40 41 42 43 44 45 48 49 52 53 56 57 58 59 60 0\n63 -21 -20 19 0 61 62 0\n63 d 62 61 0\n64 -19 0 46 47 0\n64 d 47 46 0\n65 2 20 0 1 50 0\n65 d 50 0\n66 20 0 65 2 51 0\n66 d 51 65 0\n67 -21 0 66 64 63 0\n67 d 63 64 66 0\n68 -4 0 67 6 55 2 4 0\n68 d 4 2 55 6 0\n69 -2 0 68 5 0\n69 d 5 0\n70 -3 0 67 68 54 0\n70 d 54 68 67 0\n71 1 0 69 1 0\n71 d 1 69 0\n72 0 71 70 3 0\n";
+
 /// Its 12 faults: the stem of the input is none of them, and a pin that reads it is one.
 pub const WIRE_FAULTS: &[u8] =
     b"stem t0_0 0\nstem t0_0 1\npin t0_0 0 0\npin t0_0 0 1\nstem t0_1 0\nstem t0_1 1\npin t0_1 0 0\npin t0_1 0 1\nstem t0_2 0\nstem t0_2 1\npin t0_2 0 0\npin t0_2 0 1\ntotal 12\n";

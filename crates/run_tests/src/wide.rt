@@ -102,7 +102,7 @@ static VERDICTS: [Audit; 15] = [
     ),
 ];
 
-const USAGE: &[u8] = b"tsc: usage: tsc synth|ask|audit|faults|vectors|sim|make|join|help\n";
+const USAGE: &[u8] = b"tsc: usage: tsc synth|ask|audit|faults|vectors|grade|sim|make|join|help\n";
 
 /// Texts that need a row more, words that aren't meant, and a source alone.
 static REFUSED: [Refused; 9] = [

@@ -61,4 +61,4 @@ fn help<K: Sink>(sink: &mut K) -> Result<Ending, Refusal>
 
 /// The words that have a meaning, a line each.
 const HELP: &[u8] =
-    b"tsc synth blif parity|berger|mofn\ntsc synth kiss berger|mofn\ntsc synth pla parity|berger|mofn\ntsc synth blif|pla duplex\ntsc synth blif watched\ntsc audit blif|kiss|pla\ntsc audit wide ROWS\ntsc audit exact blif|kiss|pla\ntsc audit mapped\ntsc ask exact\ntsc faults\ntsc vectors\ntsc sim none\ntsc sim stem NET V WHEN\ntsc sim pin NET INDEX V WHEN\ntsc make NUMBER\ntsc join\ntsc help\n";
+    b"tsc synth blif parity|berger|mofn\ntsc synth kiss berger|mofn\ntsc synth pla parity|berger|mofn\ntsc synth blif|pla duplex\ntsc synth blif watched\ntsc audit blif|kiss|pla\ntsc audit wide ROWS\ntsc audit exact blif|kiss|pla\ntsc audit mapped\ntsc ask exact\ntsc audit proof\ntsc faults\ntsc vectors\ntsc grade\ntsc sim none\ntsc sim stem NET V WHEN\ntsc sim pin NET INDEX V WHEN\ntsc make NUMBER\ntsc join\ntsc help\n";

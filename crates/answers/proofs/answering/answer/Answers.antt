@@ -14,3 +14,6 @@ returns-in_ok-test_vectors-in-Vectors-clause-answers c = rw (c.in-Vectors.is) c.
 
 pub returns-in_ok-joint_in-in-Join-clause-answers : goal.returns-in_ok-joint_in-in-Join-clause-answers
 returns-in_ok-joint_in-in-Join-clause-answers c = rw (c.in-Join.is) c.in_ok-joint_in-in-Join.ensures.answers
+
+pub returns-in_ok-graded_netlist-in-Grade-clause-answers : goal.returns-in_ok-graded_netlist-in-Grade-clause-answers
+returns-in_ok-graded_netlist-in-Grade-clause-answers c = rw (c.in-Grade.is) c.in_ok-graded_netlist-in-Grade.ensures.answers
