@@ -66,11 +66,7 @@ pub fn last_netlist(alloc: Global, lines: &Lines, from: usize) -> Result<Planned
 /// # Errors
 ///
 /// The first refusal of the section; registers of which no states are listed; or want of memory.
-pub fn netlist_section(
-    alloc: Global,
-    lines: &Lines,
-    from: usize,
-) -> Result<PlannedNetlist, Refusal>
+pub fn netlist_section(alloc: Global, lines: &Lines, from: usize) -> Result<PlannedNetlist, Refusal>
     requires within { from ≤ length lines.now }
     ensures denoted { IfOk result (λ read. DenotesNetlist (lines_from lines.now from) read.net read.plan) }
     ensures exact { IfOk result (λ read. read.net ≡ net_from lines.now from) }
@@ -82,13 +78,7 @@ pub fn netlist_section(
 {
     match netlist_from(alloc, lines, from) {
         Ok(read) => Ok(read),
-        Err(refusal) => Err(unless_stateless(
-            alloc,
-            lines,
-            from,
-            refusal,
-            TextRefusal::NoStates,
-        )),
+        Err(refusal) => Err(unless_stateless(alloc, lines, from, refusal, TextRefusal::NoStates)),
     }
 }
 
