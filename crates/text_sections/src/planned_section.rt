@@ -66,11 +66,7 @@ pub fn last_netlist(alloc: Global, lines: &Lines, from: usize) -> Result<Planned
 /// # Errors
 ///
 /// The first refusal of the section; registers of which no states are listed; or want of memory.
-pub fn netlist_section(
-    alloc: Global,
-    lines: &Lines,
-    from: usize,
-) -> Result<PlannedNetlist, Refusal>
+pub fn netlist_section(alloc: Global, lines: &Lines, from: usize) -> Result<PlannedNetlist, Refusal>
     requires within { from ≤ length lines.now }
     ensures denoted { IfOk result (λ read. DenotesNetlist (lines_from lines.now from) read.net read.plan) }
     ensures exact { IfOk result (λ read. read.net ≡ net_from lines.now from) }
@@ -82,13 +78,7 @@ pub fn netlist_section(
 {
     match netlist_from(alloc, lines, from) {
         Ok(read) => Ok(read),
-        Err(refusal) => Err(unless_stateless(
-            alloc,
-            lines,
-            from,
-            refusal,
-            TextRefusal::NoStates,
-        )),
+        Err(refusal) => Err(unless_stateless(alloc, lines, from, refusal, TextRefusal::NoStates)),
     }
 }
 
@@ -118,13 +108,13 @@ fn lacks_states(alloc: Global, lines: &Lines, from: usize) -> Result<bool, Alloc
     requires within { from ≤ length lines.now }
     ensures lacks { IfOk result (λ lacks. lacks ≡ lacks_states lines.now from) }
 {
-    let found = match text_from(alloc, lines, from, Kind::AnyPlan) {
-        Ok(found) => found,
+    let text = match text_from(alloc, lines, from, Kind::AnyPlan) {
+        Ok(text) => text,
         Err(Refusal::Memory(error)) => return Err(error),
         Err(_) => return Ok(false),
     };
-    match &found.plan {
-        Some(plan) => Ok(lists_none(&found.net, plan)),
+    match &text.plan {
+        Some(plan) => Ok(lists_none(&text.net, plan)),
         None => Ok(false),
     }
 }
