@@ -171,8 +171,7 @@ are_listed lines latches fit none = by latches refl
     by zero e = e
     by (suc n) e = absurd (omega (arith, (fit.some (omega arith)).0, weightless (state_words lines) none))
 
--- of two refusals of a section that are none together, each is none
-pub none_pair : (a b : Option BlifError) → first_of_section a b ≡ None → (a ≡ None) × (b ≡ None)
+none_pair : (a b : Option BlifError) → first_of_section a b ≡ None → (a ≡ None) × (b ≡ None)
 none_pair None b e = (refl, e)
 none_pair (Some a) b e = cc
 
