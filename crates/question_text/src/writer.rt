@@ -18,28 +18,6 @@ use std::alloc::{AllocError, Global};
 use tsc_io::Bytes;
 use tsc_net::{Group, Netlist, Plan};
 
-/// The clauses of the exact question of a source and a netlist with its plan under parity, in time linear in their literals but for the
-/// clause of a cover's rows, of which each literal is looked up among those before it.
-///
-/// # Errors
-///
-/// Want of memory.
-pub fn question(
-    alloc: Global,
-    source: &Netlist,
-    net: &Netlist,
-    plan: &Plan,
-) -> Result<Clauses, AllocError>
-    requires asked { IsAsked source.now.circuit net.now.circuit plan.now }
-    requires few { length (variables source.now.circuit net.now.circuit plan.now) < 2 ^ 32 }
-    ensures question { IfOk result (λ clauses. clauses ≡ question source.now.circuit net.now.circuit plan.now) }
-{
-    let groups = plan.groups.as_slice();
-    let numbers = numbers_of(alloc, source, net, groups)?;
-    let clauses = question_over(alloc, &numbers, source, net, plan, groups)?;
-    Ok(clauses)
-}
-
 /// The text of the exact question of a source and a netlist with its plan under parity, in DIMACS: comments that name variables, the
 /// header, and a line per clause.
 ///
