@@ -10,7 +10,7 @@ use Rattle.tsc_text.specs.declared.section.Section.{Section}
 use Rattle.fault_secure.specs.CodePlan.{CodePlan}
 use Rattle.fault_secure.specs.StuckAt.{StuckAt}
 use Rattle.tsc_net.specs.NetlistOf.{NetlistOf}
-use Rattle.sim_text.specs.StepLines.{all_steps, first_misshapen, is_step_line}
+use Rattle.sim_text.specs.StepLines.{all_steps, first_misshapen, is_step_line, step_bits}
 use Rattle.grading_laws.specs.Grades.{Grade}
 use Rattle.grading_laws.specs.Counts.{AreGrades}
 use Rattle.blif_read.specs.declared.kinds.Kind.TheVariants.{AnyPlan}
@@ -52,7 +52,7 @@ steps_below inputs from lines steps are sound few =
     let rest = drop from lines in
     let words : TextLine → ℕ = λ l. length l.words in
     let some = few_steps inputs rest (none_shaped (first_misshapen inputs rest) sound) in
-    omega (arith, few, some, sum_by-take-drop words lines from, ap length are, length-map rest (λ l. _))
+    omega (arith, few, some, sum_by-take-drop words lines from, ap length are, length-map rest (step_bits inputs))
 
 -- ---- the lines
 

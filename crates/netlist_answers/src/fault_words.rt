@@ -1,5 +1,5 @@
 //! A fault in words.
-ghost use Rattle.std.specs.Prelude.{◌<◌};
+ghost use Rattle.std.specs.Prelude.{◌≡◌, ◌<◌};
 ghost use Rattle.buffered_sink.specs.Output.{Prints, output};
 ghost use Rattle.fault_secure.specs.Circuit.{nets};
 ghost use Rattle.fault_secure.specs.StuckAt.{fault_cell};

@@ -135,7 +135,7 @@ fn counts_of(grades: &GradeList) -> GradeCounts
 
 /// The same with a grade more.
 fn with_one(counts: GradeCounts, grade: Grade) -> GradeCounts
-    requires alarms { counts.alarm + 1 < 2 ^ 64 }
+    requires alarm { counts.alarm + 1 < 2 ^ 64 }
     requires silent { counts.silent + 1 < 2 ^ 64 }
     requires unseen { counts.unseen + 1 < 2 ^ 64 }
     ensures alarm { result.alarm ≡ counts.alarm + count_by is_alarm (grade_as grade ∷ []) }

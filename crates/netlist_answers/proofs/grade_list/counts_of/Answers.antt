@@ -4,12 +4,12 @@ use Rattle.fault_grades.specs.Grade.{grade_as}
 use Rattle.netlist_answers.proofs.GradeLemmas.{counted_below, counted_more}
 use Rattle.netlist_answers.proofs.grade_list.counts_of.Goals as goal
 
-pub with_one-requires : goal.with_one-requires
-with_one-requires c =
+pub with_one-counts-requires : goal.with_one-counts-requires
+with_one-counts-requires c =
     let grades = c.args.grades.now in
     let place = c.loop-place.place in
     record {
-      alarms = omega (arith, counted_below is_alarm grades place, c.loop-place.invariant.alarm);
+      alarm = omega (arith, counted_below is_alarm grades place, c.loop-place.invariant.alarm);
       silent = omega (arith, counted_below is_silent grades place, c.loop-place.invariant.silent);
       unseen = omega (arith, counted_below is_unseen grades place, c.loop-place.invariant.unseen);
     }
@@ -21,7 +21,7 @@ loop-place-preserved c =
     let grade = grade_as c.get.result in
     let found = c.get.ensures.found in
     record {
-      alarm = omega (arith, c.with_one.ensures.alarm, c.loop-place.invariant.alarm, counted_more is_alarm grades place grade found);
-      silent = omega (arith, c.with_one.ensures.silent, c.loop-place.invariant.silent, counted_more is_silent grades place grade found);
-      unseen = omega (arith, c.with_one.ensures.unseen, c.loop-place.invariant.unseen, counted_more is_unseen grades place grade found);
+      alarm = omega (arith, c.with_one-counts.ensures.alarm, c.loop-place.invariant.alarm, counted_more is_alarm grades place grade found);
+      silent = omega (arith, c.with_one-counts.ensures.silent, c.loop-place.invariant.silent, counted_more is_silent grades place grade found);
+      unseen = omega (arith, c.with_one-counts.ensures.unseen, c.loop-place.invariant.unseen, counted_more is_unseen grades place grade found);
     }
