@@ -10,7 +10,7 @@ _tsc_next() {
     'synth pla') echo 'parity berger mofn duplex' ;;
     'synth kiss') echo 'berger mofn' ;;
     ask) echo exact ;;
-    audit) echo 'blif kiss pla wide exact mapped' ;;
+    audit) echo 'blif kiss pla wide exact mapped proof' ;;
     'audit exact') echo 'blif kiss pla' ;;
     sim) echo 'none stem pin' ;;
     'sim stem '* | 'sim pin '*)

@@ -1,5 +1,6 @@
-/* Reads DIMACS for elaborate.c and lrat.c: a file, the head of a formula, and one literal after another. PROGRAM, which they define, is what
-   a note begins with. */
+/* Reads DIMACS for elaborate.c and bench/lrat.c: a file, the head of a formula, and one literal after another. PROGRAM, which they define, is
+   what a note begins with. */
+#include <limits.h>
 #include <stdio.h>
 #include <stdlib.h>
 #include <string.h>
@@ -22,7 +23,8 @@ static void push(List *list, int item) {
     list->items[list->count++] = item;
 }
 
-static char *text_of(const char *path) {
+// a file's text, and how long it is
+static char *text_of(const char *path, size_t *length) {
     FILE *file = fopen(path, "rb");
     if (!file) stop("can't read ", path);
     fseek(file, 0, SEEK_END);
@@ -30,14 +32,15 @@ static char *text_of(const char *path) {
     rewind(file);
     char *text = size < 0 ? NULL : malloc(size + 1);
     if (!text || fread(text, 1, size, file) != (size_t)size) stop("can't read ", path);
-    text[size] = 0;
+    text[size] = 0, *length = size;
     fclose(file);
     return text;
 }
 
 // the formula's clauses, after its comments and its head, which says how many variables there are
 static char *clauses_of(const char *path) {
-    char *at = text_of(path);
+    size_t length;
+    char *at = text_of(path, &length);
     for (; *at == 'c' || *at == 'p'; at += *at == '\n') {
         if (*at == 'p') sscanf(at, "p cnf %d", &variables);
         at += strcspn(at, "\n");

@@ -9,8 +9,6 @@
    Deletions of clauses that gave such a literal are passed over. A lemma that doesn't follow so (a RAT step) ends it with status 1.
 
    Nothing of it is trusted: what it writes has to be checked. */
-#include <limits.h>
-
 #define PROGRAM "elaborate"
 #include "clauses.h"
 
@@ -64,12 +62,13 @@ static int take_alike(void) {
 
 static void read_all(const char *formula_path, const char *path) {
     char *at = clauses_of(formula_path);
+    size_t length;
     stamp = calloc(2 * variables + 2, sizeof *stamp);
     first_alike = malloc(SLOTS * sizeof *first_alike);
     memset(first_alike, -1, SLOTS * sizeof *first_alike);
     push(&starts, 0);
     for (int part = 0; part < 2; part++) {
-        if (part) at = text_of(path), formula = starts.count - 1;
+        if (part) at = text_of(path, &length), formula = starts.count - 1;
         while (is_more(&at)) {
             int deletes = *at == 'd';
             at += deletes;

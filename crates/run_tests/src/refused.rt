@@ -1,13 +1,18 @@
 //! Runs that are refused.
 
 use crate::runs::{NO_FAULTS, Refused, after_run, ends, first_not_refused};
-use crate::texts::{AND2, SAFE_AND2, SAFE_TABLE, SAFE_WIRE, TABLE, TOGGLE, TWO_STATES};
+use crate::texts::{
+    AND2, DUPLEX_TICKED, SAFE_AND2, SAFE_TABLE, SAFE_WIRE, TABLE, TICKED, TOGGLE, TWO_STATES,
+    WATCHED_HELD, WATCHED_TICKED,
+};
 use std::alloc::{AllocError, Global};
 use std::test::Fail;
 use tsc_io::Bytes;
 use tsc_text::push_number;
 
 const USAGE: &[u8] = b"tsc: usage: tsc synth|ask|audit|faults|vectors|grade|sim|make|join|help\n";
+
+const NO_STATES: &[u8] = b"tsc: no states\n";
 
 /// Words without a meaning, on texts that other words accept.
 static WORDS: [Refused; 36] = [
@@ -803,7 +808,7 @@ fn machines_have_a_bound(rt: HostRuntime) -> Result<(), Fail> {
 }
 
 /// Netlists with registers whose plan lists no states.
-static LISTLESS: [Refused; 17] = [
+static LISTLESS: [Refused; 16] = [
     (
         b"faults",
         b".inputs a\n.outputs p r s\n#tsc 1 parity\n#tsc group p c\n#tsc watch p\n.latch a p 0\n.names a c\n0 1\n.names p r\n1 1\n.names c s\n1 1\n.end\n",
@@ -903,30 +908,92 @@ static LISTLESS: [Refused; 17] = [
         b"tsc: line 5: latch clock\n",
     ),
     (
-        b"vectors",
-        b".inputs a\n.outputs p r s\n#tsc 1 parity\n#tsc group p c\n.latch a p 0\n.names a c\n0 1\n.names p r\n1 1\n.names c s\n1 1\n.end\n",
-        b"",
-        3,
-        b"tsc: line 3: plan shape\n",
-    ),
-    (
         b"join",
         b".inputs a\n.outputs p r s\n#tsc 1 parity\n#tsc group p c\n.latch a p 0\n.names a c\n0 1\n.names p r\n1 1\n.names c s\n1 1\n.end\n",
         b"",
         3,
         b"tsc: line 3: plan shape\n",
     ),
+    // Two clocks: no command takes it.
     (
         b"vectors",
-        b".inputs a\n.outputs p r s\n#tsc 1 parity\n#tsc group p c\n#tsc watch p c\n.latch a p 0\n.names a c\n0 1\n.names p r\n1 1\n.names c s\n1 1\n.end\n",
+        b".inputs a\n.outputs p r s\n#tsc 1 parity\n#tsc group p c\n.latch a p re k 0\n.latch a q re l 0\n.names a c\n0 1\n.names p r\n1 1\n.names c s\n1 1\n.end\n",
         b"",
         3,
-        b"tsc: line 5: plan shape\n",
+        b"tsc: line 3: plan shape\n",
     ),
 ];
 
 #[test]
 fn plans_without_states_are_refused(rt: HostRuntime) -> Result<(), Fail> {
     assert_eq!(rt; first_not_refused(rt.alloc(), &LISTLESS)?, None);
+    Ok(())
+}
+
+/// The same, where a command wants listed states.
+static STATELESS: [Refused; 13] = [
+    (b"vectors", DUPLEX_TICKED, b"", 3, NO_STATES),
+    (b"vectors", WATCHED_TICKED, b"", 3, NO_STATES),
+    (b"audit blif", AND2, DUPLEX_TICKED, 3, NO_STATES),
+    (b"audit kiss", TWO_STATES, WATCHED_HELD, 3, NO_STATES),
+    (b"audit pla", TABLE, DUPLEX_TICKED, 3, NO_STATES),
+    (b"audit wide 64", AND2, WATCHED_TICKED, 3, NO_STATES),
+    (b"audit exact blif", AND2, DUPLEX_TICKED, 3, NO_STATES),
+    (b"audit exact kiss", TWO_STATES, DUPLEX_TICKED, 3, NO_STATES),
+    (b"ask exact", AND2, WATCHED_HELD, 3, NO_STATES),
+    // What refuses the source, and a line after the netlist, come first.
+    (
+        b"audit blif",
+        TICKED,
+        DUPLEX_TICKED,
+        3,
+        b"tsc: line 4: latch in a source\n",
+    ),
+    (
+        b"vectors",
+        DUPLEX_TICKED,
+        b".model m\n",
+        3,
+        b"tsc: line 48: after the end\n",
+    ),
+    (
+        b"audit blif",
+        AND2,
+        b".inputs a\n.outputs p r s\n#tsc 1 parity\n#tsc group p c\n.latch a p 0\n.names a c\n0 1\n.names p r\n1 1\n.names c s\n1 1\n.end\n#tsc 1 parity\n",
+        3,
+        b"tsc: line 19: after the end\n",
+    ),
+    (
+        b"ask exact",
+        AND2,
+        b".inputs a\n.outputs p r s\n#tsc 1 parity\n#tsc group p c\n#tsc watch p c\n.latch a p 0\n.names a c\n0 1\n.names p r\n1 1\n.names c s\n1 1\n.end\n.model m\n",
+        3,
+        b"tsc: line 20: after the end\n",
+    ),
+];
+
+#[test]
+fn listed_states_are_wanted(rt: HostRuntime) -> Result<(), Fail> {
+    assert_eq!(rt; first_not_refused(rt.alloc(), &STATELESS)?, None);
+    Ok(())
+}
+
+/// A netlist of so many registers, of which its plan lists no states.
+fn many_registers(alloc: Global, count: u64) -> Result<Bytes, AllocError> {
+    let head = b".inputs a\n.outputs p r s\n#tsc 1 parity\n#tsc group p c\n.latch a p 0\n";
+    let mut text = Bytes::from_slice(alloc, head)?;
+    for register in 1..count {
+        text.append(b".latch a p")?;
+        push_number(&mut text, register)?;
+        text.append(b" 0\n")?;
+    }
+    text.append(b".names a c\n0 1\n.names p r\n1 1\n.names c s\n1 1\n.end\n")?;
+    Ok(text)
+}
+
+#[test]
+fn listed_states_of_many_registers_are_wanted(rt: HostRuntime) -> Result<(), Fail> {
+    let text = many_registers(rt.alloc(), 65)?;
+    assert!(rt; ends(rt.alloc(), b"vectors", text, 3, b"", NO_STATES)?);
     Ok(())
 }

@@ -202,7 +202,8 @@ module _ (lines : List TextLine) (sound : refusal Netlist lines ≡ None) where
   fit : HasFit (length net.circuit.latches) (state_words lines)
   fit = fit_at (code_line lines) planned
 
-  stateless : lists_states lines ≡ false → length net.circuit.latches ≡ 0
+  -- where it lists no states it has no latches
+  pub stateless : lists_states lines ≡ false → length net.circuit.latches ≡ 0
   stateless none = are_listed lines (length net.circuit.latches) fit none
 
   -- to its plan the netlist is as it is

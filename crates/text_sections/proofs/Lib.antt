@@ -9,3 +9,4 @@ pub mod TableLemmas
 pub mod PartLemmas
 pub mod StopLemmas
 pub mod AnyPlans
+pub mod StateLemmas

@@ -122,24 +122,32 @@ module _ (lines : List TextLine) (from : ℕ) (section : Section) (is : section 
   only_behind : (kind : Kind) (given : Option TextRefusal) → refusal_from kind lines from ≡ None → left_behind lines from ≡ given → last_refusal kind lines from ≡ given
   only_behind kind given none left = ap (λ r. first_of r (left_behind lines from)) none ∙ left
 
-  pub some_left : (kind : Kind) (count number : ℕ) → refusal_from kind lines from ≡ None
-      → section.next < count → count ≡ length lines → number ≡ (the_line lines section.next).number → last_refusal kind lines from ≡ Some (AfterTheEnd number)
-  some_left kind count number none lt counted numbered =
+  -- a line that stands after the section, and none
+  pub line_left : (count number : ℕ) → section.next < count → count ≡ length lines → number ≡ (the_line lines section.next).number
+      → left_behind lines from ≡ Some (AfterTheEnd number)
+  line_left count number lt counted numbered =
       let P : Section → Type 0 = λ s. s.next < length lines in
       let there : section.next < length lines = omega arith in
       let Q : Section → Type 0 = λ s. number ≡ (the_line lines s.next).number in
       let number_is : number ≡ (the_line lines (section_from lines from).next).number = subst Q is numbered in
-      only_behind kind (Some (AfterTheEnd number)) none
-      (behind (section_from lines from).next (length lines) (AfterTheEnd (the_line lines (section_from lines from).next).number) (subst P is there)
-      ∙ ap (λ n. Some (AfterTheEnd n)) (sym number_is))
+      behind (section_from lines from).next (length lines) (AfterTheEnd (the_line lines (section_from lines from).next).number) (subst P is there)
+      ∙ ap (λ n. Some (AfterTheEnd n)) (sym number_is)
+
+  pub no_line_left : (count : ℕ) → count ≤ section.next → count ≡ length lines → left_behind lines from ≡ None
+  no_line_left count le counted =
+      let P : Section → Type 0 = λ s. length lines ≤ s.next in
+      let there : length lines ≤ section.next = omega arith in
+      none_behind (section_from lines from).next (length lines) (AfterTheEnd (the_line lines (section_from lines from).next).number) (subst P is there)
+
+  -- where the section is not refused and a line stands after it, that refuses the lines from that place on
+  pub some_left : (kind : Kind) (count number : ℕ) → refusal_from kind lines from ≡ None
+      → section.next < count → count ≡ length lines → number ≡ (the_line lines section.next).number → last_refusal kind lines from ≡ Some (AfterTheEnd number)
+  some_left kind count number none lt counted numbered =
+      only_behind kind (Some (AfterTheEnd number)) none (line_left count number lt counted numbered)
 
   -- where the section is not refused and no line stands after it, nothing refuses the lines from that place on
   pub none_left : (kind : Kind) (count : ℕ) → refusal_from kind lines from ≡ None → count ≤ section.next → count ≡ length lines → last_refusal kind lines from ≡ None
-  none_left kind count none le counted =
-      let P : Section → Type 0 = λ s. length lines ≤ s.next in
-      let there : length lines ≤ section.next = omega arith in
-      only_behind kind None none
-      (none_behind (section_from lines from).next (length lines) (AfterTheEnd (the_line lines (section_from lines from).next).number) (subst P is there))
+  none_left kind count none le counted = only_behind kind None none (no_line_left count le counted)
 
   -- what stands behind it begins within the lines
   pub behind_within : from ≤ length lines → section.next ≤ length lines

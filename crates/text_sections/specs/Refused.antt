@@ -1,11 +1,13 @@
 -- What is refused of a text as sections: the first refusal, in order.
-use Rattle.std.specs.Prelude.{◌≡◌, ℕ, List, length, nat_lt, if◌then◌else◌, Option, None, Some}
+use Rattle.std.specs.Prelude.{◌≡◌, ℕ, Bool, ◌&&◌, not, List, length, nat_lt, if◌then◌else◌, Option, None, Some}
+use Rattle.std.specs.Option.{is_some}
 use Rattle.tsc_text.specs.Bytes.{bad_line}
 use Rattle.tsc_text.specs.Lines.{lines_of}
 use Rattle.tsc_text.specs.TextLine.{TextLine, the_line}
 use Rattle.blif_read.specs.Denotes.{refusal}
 use Rattle.blif_read.specs.declared.kinds.Kind.{Kind}
-use Rattle.blif_read.specs.declared.kinds.Kind.TheVariants.{Source, Netlist}
+use Rattle.blif_read.specs.RegisterFault.{lists_states}
+use Rattle.blif_read.specs.declared.kinds.Kind.TheVariants.{AnyPlan, Source, Netlist}
 use Rattle.blif_read.specs.declared.error.BlifError.{BlifError}
 use Rattle.blif_read.specs.declared.error.BlifError.TheVariants.{Memory as NoMemory}
 use Rattle.kiss_read.specs.Refusal.{refusal as kiss_refusal}
@@ -18,10 +20,10 @@ use Rattle.refusals.specs.declared.limit.OwnLimit.{OwnLimit}
 use Rattle.refusals.specs.declared.refusal.Refusal.{Refusal}
 use Rattle.refusals.specs.declared.text_refusal.TextRefusal.{TextRefusal}
 use Rattle.refusals.specs.declared.refusal.Refusal.TheVariants.{Memory, Text, Beyond}
-use Rattle.refusals.specs.declared.text_refusal.TextRefusal.TheVariants.{BadByte, Blif, Kiss, Pla, AfterTheEnd, NoNetlist}
+use Rattle.refusals.specs.declared.text_refusal.TextRefusal.TheVariants.{BadByte, Blif, Kiss, Pla, AfterTheEnd, NoNetlist, NoStates}
 use Rattle.commands.specs.declared.source_format.SourceFormat.{SourceFormat}
 use Rattle.commands.specs.declared.source_format.SourceFormat.TheVariants.{Blif as BlifFormat, Kiss as KissFormat, Pla as PlaFormat}
-use Rattle.text_sections.specs.Denoted.{lines_from, machine_lines, machine_section, section_from}
+use Rattle.text_sections.specs.Denoted.{lines_from, machine_lines, machine_section, net_from, section_from}
 
 -- the first refusal of two
 abbrev pub first_of : Option TextRefusal → Option TextRefusal → Option TextRefusal
@@ -131,9 +133,27 @@ source_refusal PlaFormat lines = first_table_refusal lines
 abbrev pub behind_refusal : Kind → List TextLine → ℕ → Option TextRefusal
 behind_refusal kind lines from = if nat_lt from (length lines) then last_refusal kind lines from else Some NoNetlist
 
--- the same as a netlist with its plan
+-- the section of the lines from a place on has registers, and its plan lists no states: nothing refuses it as a netlist whose plan may list none
+abbrev pub lacks_states : List TextLine → ℕ → Bool
+lacks_states lines from =
+    not (is_some (refusal_from AnyPlan lines from))
+    && (nat_lt 0 (length (net_from lines from).circuit.latches) && not (lists_states (lines_from lines from)))
+
+-- the section of the lines from a place on, as a netlist with its plan, whatever stands after it: that it lacks states, or what refuses it
+abbrev pub netlist_section_refusal : List TextLine → ℕ → Option TextRefusal
+netlist_section_refusal lines from = if lacks_states lines from then Some NoStates else refusal_from Netlist lines from
+
+-- the lines from a place on as one netlist with its plan: the section, then a line after it, and then that it lacks states
+abbrev pub last_netlist_refusal : List TextLine → ℕ → Option TextRefusal
+last_netlist_refusal lines from = if lacks_states lines from then first_of (left_behind lines from) (Some NoStates) else last_refusal Netlist lines from
+
+-- the same after a source: none where there is no line, a plan line neither
 abbrev pub netlist_refusal : List TextLine → ℕ → Option TextRefusal
-netlist_refusal lines from = behind_refusal Netlist lines from
+netlist_refusal lines from = if nat_lt from (length lines) then last_netlist_refusal lines from else Some NoNetlist
+
+-- a text as a netlist with its plan: its bytes, then its lines
+abbrev pub netlist_text_refusal : List ℕ → Option TextRefusal
+netlist_text_refusal text = first_of (byte_refusal (bad_line text)) (last_netlist_refusal (lines_of text) 0)
 
 -- what a text is refused for is the refusal; want of memory is free
 abbrev pub IsRefusedBy : Option TextRefusal → Refusal → Type 0

@@ -85,24 +85,6 @@ fn registers_of(alloc: Global, lines: &Lines) -> Result<BlifText, Refusal>
     }
 }
 
-/// The netlist with its plan that `text` denotes, all of whose lines belong to it.
-///
-/// # Errors
-///
-/// The first refusal of the text, or want of memory.
-pub fn read_netlist(alloc: Global, text: &Bytes) -> Result<PlannedNetlist, Refusal>
-    requires short { length text.now ≤ 67108864 }
-    ensures denoted { IfOk result (λ read. DenotesNetlist (first_lines (lines_of text.now)) read.net read.plan) }
-    ensures exact { IfOk result (λ read. read.net ≡ netlist_of (named_text (first_lines (lines_of text.now)))) }
-    ensures of_net { IfOk result (λ read. IsPlanOf read.net.circuit read.plan) }
-    ensures allowed { OnOk result (text_refusal Kind.Netlist text.now ≡ None) }
-    ensures refused { IfErr result (IsRefusedBy (text_refusal Kind.Netlist text.now)) }
-{
-    let lines = text_lines(alloc, text)?;
-    let read = last_netlist(alloc, &lines, 0)?;
-    Ok(read)
-}
-
 /// The netlist that `text` denotes, all of whose lines belong to it, with a plan that may list no states.
 ///
 /// # Errors
@@ -184,12 +166,13 @@ pub fn first_source(alloc: Global, lines: &Lines) -> Result<Netlist, Refusal>
     }
 }
 
-/// The netlist with its plan that the lines from the place `from` on denote, all of which belong to it.
+/// The netlist with its plan that the lines from the place `from` on denote, all of which belong to it. Where it has registers, the plan
+/// has to list their states.
 ///
 /// # Errors
 ///
 /// The first refusal of the lines, or want of memory.
-pub fn last_netlist(alloc: Global, lines: &Lines, from: usize) -> Result<PlannedNetlist, Refusal>
+pub fn last_listed(alloc: Global, lines: &Lines, from: usize) -> Result<PlannedNetlist, Refusal>
     requires within { from ≤ length lines.now }
     ensures denoted { IfOk result (λ read. DenotesNetlist (lines_from lines.now from) read.net read.plan) }
     ensures exact { IfOk result (λ read. read.net ≡ net_from lines.now from) }
@@ -260,23 +243,6 @@ fn last_text(alloc: Global, lines: &Lines, from: usize, kind: Kind) -> Result<Bl
     Ok(text)
 }
 
-/// The netlist with its plan that the first section of the lines denotes, whatever stands after it.
-///
-/// # Errors
-///
-/// The first refusal of the lines, or want of memory.
-pub fn first_netlist(alloc: Global, lines: &Lines) -> Result<PlannedNetlist, Refusal>
-    ensures denoted { IfOk result (λ read. DenotesNetlist (first_lines lines.now) read.net read.plan) }
-    ensures exact { IfOk result (λ read. read.net ≡ first_net lines.now) }
-    ensures of_net { IfOk result (λ read. IsPlanOf read.net.circuit read.plan) }
-    ensures latches { IfOk result (λ read. length read.net.circuit.latches ≤ 64) }
-    ensures nets { IfOk result (λ read. nets read.net.circuit ≤ most_nets) }
-    ensures allowed { OnOk result (first_refusal Kind.Netlist lines.now ≡ None) }
-    ensures refused { IfErr result (IsRefusedBy (first_refusal Kind.Netlist lines.now)) }
-{
-    netlist_from(alloc, lines, 0)
-}
-
 /// The netlist that the first section of the lines denotes, with its plan, which may list no states, whatever stands after it.
 ///
 /// # Errors
@@ -307,7 +273,8 @@ pub fn first_any_netlist(alloc: Global, lines: &Lines) -> Result<PlannedNetlist,
     }
 }
 
-/// The netlist with its plan that the section of the lines from the place `from` on denotes, whatever stands after it.
+/// The netlist with its plan that the section of the lines from the place `from` on denotes, whatever stands after it. Where it has
+/// registers, the plan has to list their states.
 ///
 /// # Errors
 ///
@@ -348,7 +315,7 @@ pub fn behind_first(lines: &Lines) -> usize
 }
 
 /// What the section of the lines from the place `from` on denotes, as one of this kind.
-fn text_from(alloc: Global, lines: &Lines, from: usize, kind: Kind) -> Result<BlifText, Refusal>
+pub fn text_from(alloc: Global, lines: &Lines, from: usize, kind: Kind) -> Result<BlifText, Refusal>
     requires within { from ≤ length lines.now }
     ensures named { IfOk result (λ text. named_of text.net ≡ named_text (lines_from lines.now from)) }
     ensures exact { IfOk result (λ text. text.net ≡ net_from lines.now from) }

@@ -2,6 +2,7 @@
 use Rattle.std.proofs.Common.{◌<◌, ◌≤◌, length, arith}
 use Rattle.blif_read.specs.declared.kinds.Kind.TheVariants.{Unplanned}
 use Rattle.text_sections.specs.Denoted.{lines_from}
+use Rattle.text_sections.specs.Refused.{last_refusal}
 use Rattle.text_sections.proofs.BehindLemmas.{allowed_last, no_netlist, refused_last}
 use Rattle.text_sections.proofs.LimitLemmas.{few_latches, few_nets}
 use Rattle.text_sections.proofs.SectionLemmas.{section_allowed}
@@ -10,17 +11,17 @@ use Rattle.text_sections.proofs.section.unplanned_behind.Goals as goal
 pub returns-then-from-len-clause-refused : goal.returns-then-from-len-clause-refused
 returns-then-from-len-clause-refused c =
     let past : length c.args.lines.now ≤ c.args.from = omega (arith, c.if-from-len.true, c.len.ensures.count) in
-    no_netlist Unplanned c.args.lines.now c.args.from past
+    no_netlist (last_refusal Unplanned c.args.lines.now c.args.from) c.args.lines.now c.args.from past
 
 pub returns-in-Err-clause-refused : goal.returns-in-Err-clause-refused
 returns-in-Err-clause-refused c =
     let there : c.args.from < length c.args.lines.now = omega (arith, c.if-from-len.false, c.len.ensures.count) in
-    refused_last Unplanned c.args.lines.now c.args.from c.in-Err.refusal there c.in-Err.ensures.refused
+    refused_last (last_refusal Unplanned c.args.lines.now c.args.from) c.args.lines.now c.args.from c.in-Err.refusal there c.in-Err.ensures.refused
 
 pub returns-in-Ok-clause-allowed : goal.returns-in-Ok-clause-allowed
 returns-in-Ok-clause-allowed c =
     let there : c.args.from < length c.args.lines.now = omega (arith, c.if-from-len.false, c.len.ensures.count) in
-    allowed_last Unplanned c.args.lines.now c.args.from there c.in-Ok.ensures.allowed
+    allowed_last (last_refusal Unplanned c.args.lines.now c.args.from) c.args.lines.now c.args.from there c.in-Ok.ensures.allowed
 
 pub returns-in-Ok-clause-latches : goal.returns-in-Ok-clause-latches
 returns-in-Ok-clause-latches c =
