@@ -1,20 +1,18 @@
 -- What `grade` answers, by the laws of grades.
-use Rattle.std.proofs.Common.{◌≡◌, ℕ, ◌+◌, ◌<◌, ◌≤◌, true, List, [], ◌∷◌, length, map, None, refl, sym, ap, ap₂, ◌∙◌, subst, arith}
+use Rattle.std.proofs.Common.{◌≡◌, ℕ, ◌+◌, ◌<◌, true, List, [], ◌∷◌, length, None, refl, sym, ap, ap₂, ◌∙◌, subst, arith}
 use Rattle.std.specs.Prelude.{slice_index_or}
 use Rattle.std.proofs.lemmas.List.{length-map}
 use Rattle.tsc_text.specs.Bytes.{bad_line}
 use Rattle.tsc_text.specs.Lines.{lines_of}
 use Rattle.tsc_net.specs.When.{has_step}
 use Rattle.tsc_net.specs.declared.when.Span.{Span}
-use Rattle.fault_secure.specs.Circuit.{Circuit}
 use Rattle.fault_secure.specs.CodePlan.{CodePlan}
-use Rattle.fault_secure.specs.Listed.{listed_faults}
 use Rattle.fault_secure.specs.Run.{Runs}
 use Rattle.fault_secure.specs.Settle.{Acyclic}
-use Rattle.fault_secure.specs.StuckAt.{NoFault, StuckAt}
+use Rattle.fault_secure.specs.StuckAt.{StuckAt}
 use Rattle.fault_sim.specs.Calls.{steps_held}
 use Rattle.sim_text.specs.StepLines.{all_steps, step_bits}
-use Rattle.grading_laws.specs.Grades.{AlarmAt, Grade, IsGrade, Unseen, every_step}
+use Rattle.grading_laws.specs.Grades.{Grade, IsGrade, Unseen, every_step}
 use Rattle.grading_laws.specs.GradeLaws.{AlarmSecureHasNoSilent, AlarmsAreShown, CellSecureHasNoSilent, FaultSecureHasNoSilent, NoneIsSilent, RegisterAlarmSecureHasNoSilent, RegisterSecureHasNoSilent}
 use Rattle.grading_laws.specs.Counts.{EachHasOneGrading, NoSilentIsCounted}
 use Rattle.blif_read.specs.declared.kinds.Kind.TheVariants.{AnyPlan}

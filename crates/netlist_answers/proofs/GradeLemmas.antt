@@ -1,10 +1,9 @@
 -- A text whose faults are graded: its steps, the lines and counts of its grades, its answer, and what is refused of it.
-use Rattle.std.proofs.Common.{◌≡◌, ℕ, ◌+◌, ◌<◌, ◌≤◌, ◌^◌, Bool, true, false, cond, if◌then◌else◌, List, [], ◌∷◌, ◌++◌, count_by, drop, length, take, get_or, Option, None, Some, refl, sym, ap, ap₂, ◌∙◌, subst, arith}
-use Rattle.std.specs.List.{slice_get, sum_by}
+use Rattle.std.proofs.Common.{◌≡◌, ℕ, ◌+◌, ◌<◌, ◌≤◌, ◌^◌, Bool, true, false, cond, if◌then◌else◌, List, [], ◌∷◌, ◌++◌, count_by, drop, length, take, Option, None, Some, refl, sym, ap, ap₂, ◌∙◌, subst, arith}
+use Rattle.std.specs.List.{slice_get}
 use Rattle.std.proofs.lemmas.List.{drop_more, length-map, length-take, take_more}
 use Rattle.std.proofs.lemmas.List.Sums.{count_by-le-length, sum_by-append, sum_by-cons, sum_by-take-drop}
 use Rattle.std.proofs.lemmas.Option.{none-some, slice_get_within, get_or_from_slice_get}
-use Rattle.tsc_text.specs.Lines.{lines_of}
 use Rattle.tsc_text.specs.TextLine.{TextLine, word_count}
 use Rattle.tsc_text.specs.declared.section.Section.{Section}
 use Rattle.fault_secure.specs.CodePlan.{CodePlan}
@@ -118,8 +117,3 @@ module _ (lines : List TextLine) (net : NetlistOf) (section : Section) (inputs :
 
   pub allowed_steps : shape ≡ None → sim_lines_refusal NoFault lines ≡ None
   allowed_steps none = allowed_both (first_refusal AnyPlan lines) run sound (sym same_shape ∙ none)
-
--- ---- seen of the text
-
-pub is_grade_reply : (text : List ℕ) (lines : List TextLine) (answer : List ℕ) → lines ≡ lines_of text → IsGradeListOf lines answer → IsGradeListOf (lines_of text) answer
-is_grade_reply text lines answer are right = let P : List TextLine → Type 0 = λ l. IsGradeListOf l answer in subst P are right
