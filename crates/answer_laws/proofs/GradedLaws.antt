@@ -1,5 +1,5 @@
 -- What `grade` answers, by the laws of grades.
-use Rattle.std.proofs.Common.{◌≡◌, ℕ, ◌+◌, ◌<◌, true, List, [], ◌∷◌, length, None, refl, sym, ap, ap₂, ◌∙◌, subst, arith}
+use Rattle.std.proofs.Common.{◌≡◌, ℕ, ◌+◌, ◌<◌, ◌≤◌, Bool, true, List, [], ◌∷◌, length, None, refl, sym, ap, ap₂, ◌∙◌, subst, arith}
 use Rattle.std.specs.Prelude.{slice_index_or}
 use Rattle.std.proofs.lemmas.List.{length-map}
 use Rattle.tsc_text.specs.Bytes.{bad_line}
@@ -70,11 +70,12 @@ secure_tells_no_silent count faults cells alarms registers register_alarms = rec
 -- ---- alarms are simulated
 
 -- where the spans hold each of these steps the fault is present at every step
-held_at_each : (spans : List Span) (from : ℕ) (xs : List (List Bool)) → ((step : ℕ) → step < length xs → has_step spans (from + step) ≡ true) → steps_held spans from xs ≡ every_step xs
+held_at_each : (spans : List Span) (from : ℕ) (xs : List (List Bool)) → ((step : ℕ) → from ≤ step → step < from + length xs → has_step spans step ≡ true)
+    → steps_held spans from xs ≡ every_step xs
 held_at_each spans from [] held = refl
 held_at_each spans from (x ∷ xs) held =
-    ap₂ (λ (b : Bool) (w : List Bool). b ∷ w) (held 0 (omega arith))
-    (held_at_each spans (from + 1) xs (λ step inside. held (step + 1) (omega arith)))
+    ap₂ (λ (b : Bool) (w : List Bool). b ∷ w) (held from (omega arith) (omega arith))
+    (held_at_each spans (from + 1) xs (λ step above below. held step (omega arith) (omega arith)))
 
 pub alarms_are_simulated : SectionsAreBuilt → AlarmsAreShown → AlarmsAreSimulated
 alarms_are_simulated built shown text answer printed fault place step sound graded run each inside is alarm =
@@ -83,7 +84,7 @@ alarms_are_simulated built shown text answer printed fault place step sound grad
     let steps = lines_behind (lines_of text) in
     let xs = all_steps N.inputs steps in
     let held : steps_held (steps_of fault) 0 xs ≡ every_step xs =
-    held_at_each (steps_of fault) 0 xs (λ at below. each at (omega (arith, below, length-map steps (step_bits N.inputs)))) in
+    held_at_each (steps_of fault) 0 xs (λ at above below. each at (omega (arith, below, length-map steps (step_bits N.inputs)))) in
     let Q : StuckAt → Type 0 = λ f. IsGrade N P f xs (slice_index_or graded.grades place Unseen) in
     let R : Grade → Type 0 = λ g. IsGrade N P run.stuck xs g in
     let S : List Bool → Type 0 = λ w. Runs N run.stuck w xs run.run.one.run in
