@@ -1,0 +1,4 @@
+pub mod Fits
+pub mod Replies
+pub mod Proved
+pub mod Determined

@@ -1,0 +1,3 @@
+pub mod Refused
+pub mod ProofReply
+pub mod Laws
