@@ -11,3 +11,5 @@ pub mod Rooms
 pub mod TextLines
 pub mod TextLaw
 pub mod Small
+pub mod Given
+pub mod Below

@@ -107,11 +107,14 @@ once_push (y ∷ ys) x =
 pub once_next : (xs : List Literal) (i : ℕ) (d : Literal) → i < length xs → once (take (i + 1) xs) ≡ with_new (once (take i xs)) (get_or xs i d)
 once_next xs i d inside = ap once (take_more xs i d inside) ∙ once_push (take i xs) (get_or xs i d)
 
--- three parts and a last clause, one after the other
-pub all_pushed : (out a b c : List (List Literal)) (last : List Literal) (first second third all : List (List Literal))
-    → first ≡ after_clauses out a → second ≡ after_clauses first b → third ≡ after_clauses second c → all ≡ third ++ kept last
-    → all ≡ after_clauses out (a ++ b ++ c ++ last ∷ [])
-all_pushed out a b c last first second third all p q r s =
-    s ∙ ap (λ list. list ++ kept last) (r ∙ ap (λ list. after_clauses list c) (q ∙ ap (λ list. after_clauses list b) p))
-    ∙ sym (after_clauses-append out (a ++ b ++ c) (last ∷ [])
-    ∙ ap (λ list. list ++ kept last) (after_clauses-append out (a ++ b) c ∙ ap (λ list. after_clauses list c) (after_clauses-append out a b)))
+-- two parts and a last clause, one after the other
+pub both_pushed : (out a b : List (List Literal)) (last : List Literal) (first second all : List (List Literal))
+    → first ≡ after_clauses out a → second ≡ after_clauses first b → all ≡ second ++ kept last → all ≡ after_clauses out (a ++ b ++ last ∷ [])
+both_pushed out a b last first second all p q r =
+    r ∙ ap (λ list. list ++ kept last) (q ∙ ap (λ list. after_clauses list b) p)
+    ∙ sym (after_clauses-append out (a ++ b) (last ∷ []) ∙ ap (λ list. list ++ kept last) (after_clauses-append out a b))
+
+-- a part before two parts and a last clause
+pub before_all : (a b c : List (List Literal)) (last : List Literal) → a ++ (b ++ c ++ last ∷ []) ≡ a ++ b ++ c ++ last ∷ []
+before_all a b c last =
+    sym (append_assoc a (b ++ c) (last ∷ [])) ∙ ap (λ list. list ++ last ∷ []) (sym (append_assoc a b c))

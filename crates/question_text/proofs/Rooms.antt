@@ -14,7 +14,8 @@ copy_room first N none few j inside =
     let e = ap (slice_index (copy_numbers first N)) (let e : node_net N j ≡ N.inputs + j = omega (arith, none) in e) ∙ behind_first N.inputs j (numbers_from first N.nodes) in
     omega (arith, e, numbers_room first j N.nodes inside)
 
-cell_room : (i at j : ℕ) (nodes : List NodeOf) → j < length nodes → (cell_at (cells_from i at nodes) j).rows + wide_of (slice_index_or nodes j no_node) ≤ cells_end i at nodes
+-- the rows of a node's cell have room before the end of all cells
+pub cell_room : (i at j : ℕ) (nodes : List NodeOf) → j < length nodes → (cell_at (cells_from i at nodes) j).rows + wide_of (slice_index_or nodes j no_node) ≤ cells_end i at nodes
 cell_room i at j [] inside = absurd (omega arith)
 cell_room i at zero (n ∷ nodes) inside = omega (arith, cells_least (i + 1) (cell_end i at (wide_of n)) nodes, cell_least i at (wide_of n))
 cell_room i at (suc j) (n ∷ nodes) inside = cell_room (i + 1) (cell_end i at (wide_of n)) j nodes (omega arith)

@@ -5,6 +5,7 @@ pub mod Failing
 pub mod Reasons
 pub mod Whole
 pub mod Groups
+pub mod Giving
 pub mod Text
 pub mod Lines
 pub mod SmallText

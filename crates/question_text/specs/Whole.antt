@@ -66,6 +66,10 @@ abbrev pub wrong_of : Numbers → Circuit → Circuit → List Group → List Li
 wrong_of n C N groups =
     ones_from n.outputs C.outputs ++ groups_even n.right N.outputs n.groups groups ++ is_zero n.rails ∷ is_one (n.rails + 2) ∷ []
 
+-- those after the copies, where these are the rails and the outputs
+abbrev pub rest_over : Numbers → Circuit → Circuit → List Group → ℕ → ℕ → List ℕ → List (List Literal)
+rest_over n C N groups rail1 rail2 shown = word_gates n C N groups ++ alarm_gates n N.inputs rail1 rail2 shown ++ wrong_of n C N groups ∷ []
+
 -- all clauses, where these are the rails and the outputs
 abbrev pub clauses_over : Numbers → Circuit → Circuit → List Group → ℕ → ℕ → List ℕ → List (List Literal)
 clauses_over n C N groups rail1 rail2 shown = copies_gates n C N ++ word_gates n C N groups ++ alarm_gates n N.inputs rail1 rail2 shown ++ wrong_of n C N groups ∷ []

@@ -48,7 +48,7 @@ fn push_difference(
 }
 
 /// Adds that at most one node is chosen, up to this one.
-fn push_choice(out: &mut Clauses, cells: &[Cell], place: usize) -> Result<(), AllocError>
+pub(crate) fn push_choice(out: &mut Clauses, cells: &[Cell], place: usize) -> Result<(), AllocError>
     ensures clauses { OnOk result (out.new ≡ after_clauses out.old (choice_gates cells.now place)) }
 {
     if place == 0 {
@@ -93,7 +93,7 @@ fn push_wrong(
 }
 
 /// Adds the clauses of a node, whose net has the number `right` without a fault.
-fn push_cell(
+pub(crate) fn push_cell(
     out: &mut Clauses,
     numbers: &[u32],
     right: u32,

@@ -1,8 +1,8 @@
 //! The exact question of a network and its netlist as text: the code that writes the clauses.
-//! Its main call is `question_text`, which writes the question in DIMACS; `question` answers its clauses alone.
-//! It stands on `exact_question` (what the question is), `tsc_net` (netlists and plans), `refutations` (literals) and `tsc_text` (numbers as words).
-//! Its main promise: the text is the one that is stated of the source, the netlist and its plan, byte for byte.
-//! Definitions, in reading order: specs/Text (the text), SmallText (a worked one), and of the code alone Gates, Covers, Nodes, Failing, Reasons, Whole, Groups, Lines.
+//! Its main calls are `question_text`, which writes the question in DIMACS, and `question_checker`, which answers a checker of refutations that holds its clauses.
+//! It stands on `exact_question` (what the question is), `tsc_net` (netlists and plans), `refutations` (literals, and the checker) and `tsc_text` (numbers as words).
+//! Its main promise: the text is the one that is stated of the source, the netlist and its plan, byte for byte; and the checker holds the question, clause for clause.
+//! Definitions, in reading order: specs/Text (the text), SmallText (a worked one), Giving (a checker that holds the question), and of the code alone Gates, Covers, Nodes, Failing, Reasons, Whole, Groups, Lines.
 #![tactic(auto)]
 
 mod cells;
@@ -10,6 +10,7 @@ mod clauses;
 mod covers;
 mod failing;
 mod gates;
+mod giving;
 mod laws;
 mod nodes;
 mod numbers;
@@ -21,5 +22,6 @@ mod text;
 mod writer;
 
 pub use clauses::{Clauses, Literals};
+pub use giving::question_checker;
 pub use laws::small_text;
-pub use writer::{question, question_text};
+pub use writer::question_text;

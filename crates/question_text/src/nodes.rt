@@ -29,7 +29,7 @@ pub(crate) fn push_nodes(
 }
 
 /// Adds the clauses of a node.
-fn push_node(
+pub(crate) fn push_node(
     out: &mut Clauses,
     numbers: &[u32],
     net: &Netlist,

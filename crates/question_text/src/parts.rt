@@ -6,7 +6,7 @@ ghost use Rattle.question_text.specs.Gates.{after_clauses, is_one, is_zero, kept
 ghost use Rattle.question_text.specs.Nodes.{HasRoom};
 ghost use Rattle.question_text.specs.Failing.{CellsHaveRoom};
 ghost use Rattle.question_text.specs.Reasons.{groups_end, groups_even, ones_from};
-ghost use Rattle.question_text.specs.Whole.{alarm_gates, clauses_over, copies_gates, numbers_of, rails_first, word_gates};
+ghost use Rattle.question_text.specs.Whole.{alarm_gates, clauses_over, copies_gates, numbers_of, rails_first, rest_over, word_gates};
 
 use crate::clauses::{Clauses, Literals};
 use crate::failing::push_failing;
@@ -99,6 +99,28 @@ fn push_last(out: &mut Clauses, wrong: &mut Literals, rails: u32) -> Result<(), 
     out.push(wrong.as_slice())
 }
 
+/// Adds the clauses after those of the copies, where these are the rails and the outputs.
+pub(crate) fn push_rest(
+    out: &mut Clauses,
+    numbers: &Numbers,
+    source: &Netlist,
+    net: &Netlist,
+    groups: &[Group],
+    rails: (NetId, NetId),
+    shown: &[NetId],
+) -> Result<(), AllocError>
+    requires outputs_room { numbers.now.outputs + length source.now.circuit.outputs < 2 ^ 32 }
+    requires groups_room { groups_end numbers.now.groups groups.now < 2 ^ 32 }
+    requires room { numbers.now.rails + 3 < 2 ^ 32 }
+    ensures clauses { OnOk result (out.new ≡ after_clauses out.old (rest_over numbers.now source.now.circuit net.now.circuit groups.now rails.0.number rails.1.number (net_numbers shown.now))) }
+{
+    let mut wrong = Items::new(out.alloc());
+    push_word(out, &mut wrong, numbers, source, net, groups)?;
+    push_alarm(out, numbers, net.inputs(), rails.0, rails.1, shown)?;
+    push_last(out, &mut wrong, numbers.rails)?;
+    Ok(())
+}
+
 /// Adds all clauses, where these are the rails and the outputs.
 fn push_clauses(
     out: &mut Clauses,
@@ -115,12 +137,8 @@ fn push_clauses(
     requires few { rails_first source.now.circuit net.now.circuit groups.now + 3 < 2 ^ 32 }
     ensures clauses { OnOk result (out.new ≡ after_clauses out.old (clauses_over numbers.now source.now.circuit net.now.circuit groups.now rails.0.number rails.1.number (net_numbers shown.now))) }
 {
-    let mut wrong = Items::new(out.alloc());
     push_copies(out, numbers, source, net)?;
-    push_word(out, &mut wrong, numbers, source, net, groups)?;
-    push_alarm(out, numbers, net.inputs(), rails.0, rails.1, shown)?;
-    push_last(out, &mut wrong, numbers.rails)?;
-    Ok(())
+    push_rest(out, numbers, source, net, groups, rails, shown)
 }
 
 /// All clauses, where these are the rails, and the plan has so many outputs.

@@ -3,6 +3,7 @@ ghost use Rattle.std.specs.Prelude.{◌≡◌, ◌+◌, ◌<◌, ◌^◌, ◌++�
 ghost use Rattle.std.specs.List.{flat_map};
 ghost use Rattle.exact_question.specs.Laws.{IsAsked};
 ghost use Rattle.exact_question.specs.Question.{question, variables};
+ghost use Rattle.question_text.specs.Giving.{LiteralsAreWithin};
 ghost use Rattle.question_text.specs.Groups.{AreGroups};
 ghost use Rattle.question_text.specs.Lines.{comment_lines};
 ghost use Rattle.question_text.specs.Text.{clause_line, header, question_text};
@@ -17,28 +18,6 @@ use crate::text::{
 use std::alloc::{AllocError, Global};
 use tsc_io::Bytes;
 use tsc_net::{Group, Netlist, Plan};
-
-/// The clauses of the exact question of a source and a netlist with its plan under parity, in time linear in their literals but for the
-/// clause of a cover's rows, of which each literal is looked up among those before it.
-///
-/// # Errors
-///
-/// Want of memory.
-pub fn question(
-    alloc: Global,
-    source: &Netlist,
-    net: &Netlist,
-    plan: &Plan,
-) -> Result<Clauses, AllocError>
-    requires asked { IsAsked source.now.circuit net.now.circuit plan.now }
-    requires few { length (variables source.now.circuit net.now.circuit plan.now) < 2 ^ 32 }
-    ensures question { IfOk result (λ clauses. clauses ≡ question source.now.circuit net.now.circuit plan.now) }
-{
-    let groups = plan.groups.as_slice();
-    let numbers = numbers_of(alloc, source, net, groups)?;
-    let clauses = question_over(alloc, &numbers, source, net, plan, groups)?;
-    Ok(clauses)
-}
 
 /// The text of the exact question of a source and a netlist with its plan under parity, in DIMACS: comments that name variables, the
 /// header, and a line per clause.
@@ -55,6 +34,7 @@ pub fn question_text(
     requires asked { IsAsked source.now.circuit net.now.circuit plan.now }
     requires few { length (variables source.now.circuit net.now.circuit plan.now) < 2 ^ 32 }
     ensures text { IfOk result (λ text. text ≡ question_text source.now net.now plan.now) }
+    ensures within { IfOk result (λ text. LiteralsAreWithin source.now.circuit net.now.circuit plan.now) }
 {
     let groups = plan.groups.as_slice();
     let numbers = numbers_of(alloc, source, net, groups)?;

@@ -1,6 +1,7 @@
 use Rattle.std.proofs.Common.{sym, ap, ◌∙◌, subst, arith}
 use Rattle.question_text.specs.Groups.{AreGroups}
 use Rattle.question_text.specs.declared.numbers.Numbers.{Numbers}
+use Rattle.question_text.proofs.Below.{literals_are_within}
 use Rattle.question_text.proofs.TextLaw.{groups_kept, count_is, text_is}
 use Rattle.question_text.proofs.writer.question_text.Goals as goal
 
@@ -36,4 +37,5 @@ returns c =
           c.in_ok-text.ensures.text
           ∙ text_is c.args.source.now c.args.net.now c.args.plan.now c.as_slice-groups.result.now c.requires.asked are c.in_ok-numbers.numbers c.in_ok-clauses.clauses
           c.in_ok-numbers.ensures.numbers c.in_ok-clauses.ensures.question;
+      within = literals_are_within c.args.source.now.circuit c.args.net.now.circuit c.args.plan.now c.as_slice-groups.result.now c.requires.asked are;
     }
