@@ -17,6 +17,7 @@ use Rattle.netlist_answers.specs.Refused.{has_too_many_points, points_refusal, r
 use Rattle.sim_text.specs.StepLines.{first_misshapen}
 use Rattle.text_sections.proofs.AnyPlans.{any_first, any_text}
 use Rattle.text_sections.proofs.SectionLemmas.{allowed_both, none_first, none_later}
+use Rattle.text_sections.proofs.StateLemmas.{listed_text}
 
 pub some_left : (b : Bool) (refusal : TextRefusal) → b ≡ true → (if b then Some refusal else None) ≡ None → ⊥
 some_left true refusal is e = cc
@@ -41,7 +42,7 @@ read_by_all answer readable =
     ap (λ steps. shape_refusal (first_misshapen (first_net lines).circuit.inputs steps)) behind in
     record {
       faults = any_text answer readable;
-      tested = ap (λ first. first_of first (points_refusal (has_too_many_points (netlist_in answer).circuit (plan_in answer)))) readable;
+      tested = ap (λ first. first_of first (points_refusal (has_too_many_points (netlist_in answer).circuit (plan_in answer)))) (listed_text answer readable);
       simulated = allowed_both (byte_refusal (bad_line answer)) (sim_lines_refusal NoFault lines) bytes
           (allowed_both (first_refusal AnyPlan lines) (run_refusal NoFault (first_net lines) (lines_behind lines)) (any_first lines section) steps);
     }

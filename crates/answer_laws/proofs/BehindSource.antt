@@ -28,8 +28,9 @@ use Rattle.refusals.specs.declared.text_refusal.TextRefusal.TheVariants.{AfterTh
 use Rattle.commands.specs.declared.source_format.SourceFormat.{SourceFormat}
 use Rattle.commands.specs.declared.source_format.SourceFormat.TheVariants.{Blif, Kiss, Pla}
 use Rattle.text_sections.specs.Denoted.{behind_source, first_lines, first_net, first_plan, first_section, lines_from, machine_lines, machine_section, net_from, no_plan, plan_from, section_from, source_of}
-use Rattle.text_sections.specs.Refused.{behind_machine, first_table_refusal, left_behind, left_over, lines_refusal, machine_lines_refusal, machine_refusal, netlist_refusal, pla_lines_refusal, pla_refusal, refusal_from, section_refusal, source_refusal}
+use Rattle.text_sections.specs.Refused.{behind_machine, first_table_refusal, last_netlist_refusal, left_behind, left_over, lines_refusal, machine_lines_refusal, machine_refusal, netlist_refusal, pla_lines_refusal, pla_refusal, refusal_from, section_refusal, source_refusal}
 use Rattle.text_sections.proofs.BehindLemmas.{allowed_last}
+use Rattle.text_sections.proofs.StateLemmas.{listed_last}
 use Rattle.text_sections.proofs.PartLemmas.{range_is}
 use Rattle.answer_laws.proofs.Renumbered.{named_moved, plan_moved, refusal_moved}
 use Rattle.text_sections.proofs.SectionLemmas.{allowed_both, none_behind, none_first, none_later, section_allowed}
@@ -199,10 +200,10 @@ netlist_allowed more first second allowed =
     let whole : length second ≤ (first_section second).next =
     whole_of (first_section second).next (length second) (the_line second (first_section second).next).number
     (none_later (refusal_from Netlist second 0) (left_over second) allowed) in
-    allowed_last Netlist lines from (omega (arith, some_lines second sound, whole_length more first second))
-    (allowed_both (refusal_from Netlist lines from) (left_behind lines from) (second_allowed more first second sound)
+    allowed_last (last_netlist_refusal lines from) lines from (omega (arith, some_lines second sound, whole_length more first second))
+    (listed_last lines from (allowed_both (refusal_from Netlist lines from) (left_behind lines from) (second_allowed more first second sound)
     (none_behind (section_from lines from).next (length lines) (AfterTheEnd (the_line lines (section_from lines from).next).number)
-    (second_whole more first second whole)))
+    (second_whole more first second whole))))
 
 -- ---- the source, where more lines stand behind it
 

@@ -6,3 +6,4 @@ pub mod AnswerLemmas
 pub mod MadeAccepted
 pub mod TableAnswers
 pub mod LooseTexts
+pub mod GradedLaws

@@ -1,3 +1,4 @@
 pub mod AnswerLaws
 pub mod MadeLaws
 pub mod LooseTexts
+pub mod GradedLaws

@@ -3,10 +3,14 @@ ghost use Rattle.std.specs.Prelude.{◌≡◌, ℕ, List};
 ghost use Rattle.synth_ways.specs.declared.way.Way.TheVariants.{Parity, Duplex};
 ghost use Rattle.tsc_text.specs.declared.section.End.TheVariants.{Kiss as KissEnd};
 ghost use Rattle.answer_laws.specs.AnswerLaws.{AnswersAreAccepted, AnswersAreRead, IsEndedSource, IsNoSynthesis, IsNoSynthesisOf, LooseAnswersAreAccepted, LooseAnswersAreRead, MachineAnswersAreAccepted, MachineAnswersAreRead, OneVectorList, TablesAreAnswered, VerdictsAreRight, late_answer, two_states, undriven_answer, wide_answer};
+ghost use Rattle.answer_laws.specs.GradedLaws.{AlarmsAreSimulated, OneGradeReply, SecureTellsNoSilent};
 ghost use Rattle.answers.specs.Answers.{IsLooseSynthesis, IsSynthesis, duplex_text, parity_text};
 ghost use Rattle.answer_laws.specs.LooseTexts.{loose_duplex_text, loose_parity_text};
 ghost use Rattle.text_sections.specs.Denoted.{netlist_in, values_in};
 ghost use Rattle.answer_laws.specs.MadeLaws.{MadeReportsAreBacked, MadeTextsAreAllowed};
+
+use grading_laws::{alarms_are_shown, grades_are_counted, secure_has_no_silent_fault};
+use mapped_laws::sections_are_built;
 
 /// A law: the bytes of a synthesis under parity are computed from the network alone.
 pub fn parity_text_is_exact()
@@ -71,6 +75,32 @@ pub fn vectors_are_determined()
 pub fn verdicts_are_right()
     ensures right { VerdictsAreRight }
 {}
+
+/// A law: so is what `grade` answers to a text that nothing refuses.
+pub fn grades_are_determined()
+    ensures one { OneGradeReply }
+{
+    sections_are_built();
+    grades_are_counted();
+}
+
+/// A law: of a netlist that is fault-secure, secure against any one failing cell, or alarm-secure for a source that allows one list of
+/// outputs, `grade` tells no fault as silent; nor of one with registers that is secure or alarm-secure for its source.
+pub fn secure_netlists_have_no_silent_line()
+    ensures silent { SecureTellsNoSilent }
+{
+    grades_are_counted();
+    secure_has_no_silent_fault();
+}
+
+/// A law: a fault that `grade` tells with an alarm at a step is one of which `sim`, where it is present from the first step on, has its
+/// first alarm at that step.
+pub fn alarms_are_simulated()
+    ensures alarms { AlarmsAreSimulated }
+{
+    sections_are_built();
+    alarms_are_shown();
+}
 
 /// A law: an answer in which a node reads a name that nothing drives, and one with a row that is wider than its cover, are no synthesis
 /// of any text.

@@ -30,15 +30,15 @@ any_plan_nets true N P is = plan_nets N P is
 any_plan_nets false N P is = opened_plan_nets N P is
 
 -- a text whose lines are refused, or allowed
-refused-sim : (fault : SimFault) (text : List ℕ) (lines : List TextLine) (given : Refusal)
+pub refused_sim : (fault : SimFault) (text : List ℕ) (lines : List TextLine) (given : Refusal)
     → lines ≡ lines_of text → bad_line text ≡ None → IsRefusedBy (sim_lines_refusal fault lines) given → IsRefusedBy (sim_refusal fault text) given
-refused-sim fault text lines given are sound refused =
+refused_sim fault text lines given are sound refused =
     let P : List TextLine → Type 0 = λ l. IsRefusedBy (sim_lines_refusal fault l) given in
     refused_later (byte_refusal (bad_line text)) (sim_lines_refusal fault (lines_of text)) given (ap byte_refusal sound) (subst P are refused)
 
-allowed-sim : (fault : SimFault) (text : List ℕ) (lines : List TextLine)
+pub allowed_sim : (fault : SimFault) (text : List ℕ) (lines : List TextLine)
     → lines ≡ lines_of text → bad_line text ≡ None → sim_lines_refusal fault lines ≡ None → sim_refusal fault text ≡ None
-allowed-sim fault text lines are sound allowed =
+allowed_sim fault text lines are sound allowed =
     allowed_both (byte_refusal (bad_line text)) (sim_lines_refusal fault (lines_of text)) (ap byte_refusal sound) (ap (sim_lines_refusal fault) (sym are) ∙ allowed)
 
 -- lines that begin with a netlist, and its run over the lines behind it
@@ -87,8 +87,8 @@ pub text_ends : {T : Type 0} (fault : SimFault) (text : List ℕ) (lines : List 
     → lines ≡ lines_of text → bad_line text ≡ None → SimulationEnds fault lines result before after → TextEnds fault text result before after
 text_ends fault text lines result before after are sound ends =
     ends_with (IsSimulation fault lines) (IsSimulation fault (lines_of text)) (sim_lines_refusal fault lines) (sim_refusal fault text) before after
-    (λ bytes made. simulation-of fault text lines bytes are made) (λ none. allowed-sim fault text lines are sound none)
-    (λ given refused. refused-sim fault text lines given are sound refused) result ends
+    (λ bytes made. simulation-of fault text lines bytes are made) (λ none. allowed_sim fault text lines are sound none)
+    (λ given refused. refused_sim fault text lines given are sound refused) result ends
 
 -- ---- what refuses a text is no failed write, so that a refused simulation ends with nothing printed
 

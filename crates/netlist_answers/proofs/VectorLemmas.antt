@@ -24,11 +24,12 @@ use Rattle.refusals.specs.declared.refusal.Refusal.{Refusal}
 use Rattle.refusals.specs.declared.text_refusal.TextRefusal.{TextRefusal}
 use Rattle.netlist_answers.specs.Answers.{IsVectorList}
 use Rattle.text_sections.specs.Denoted.{first_lines, netlist_in, plan_in}
-use Rattle.text_sections.specs.Refused.{IsRefusedBy, byte_refusal, lines_refusal, text_refusal}
+use Rattle.text_sections.specs.Refused.{IsRefusedBy, byte_refusal, last_netlist_refusal, lines_refusal, netlist_text_refusal}
 use Rattle.netlist_answers.specs.Refused.{has_too_many_points, points_refusal, vectors_refusal}
 use Rattle.netlist_answers.specs.VectorList.{counts_line, last_lines, point_end, testable, untestable, vector_line, vector_lines, vector_list, verdict_line}
 use Rattle.text_sections.proofs.DenotedLemmas.{plan_denoted}
 use Rattle.text_sections.proofs.LimitLemmas.{few_latches, few_nets}
+use Rattle.text_sections.proofs.StateLemmas.{last_listed}
 use Rattle.text_sections.proofs.SectionLemmas.{allowed_both, none_later, refused_first, refused_later, section_allowed}
 use Rattle.fault_secure.specs.Exposing.{listed_states, point_count}
 
@@ -78,34 +79,34 @@ not_err (Err other) value error is bad = cc
 
 -- ---- the text
 
-lines_allowed : (text : List ℕ) → text_refusal Netlist text ≡ None → lines_refusal Netlist (lines_of text) ≡ None
-lines_allowed text allowed = none_later (byte_refusal (bad_line text)) (lines_refusal Netlist (lines_of text)) allowed
+lines_allowed : (text : List ℕ) → netlist_text_refusal text ≡ None → lines_refusal Netlist (lines_of text) ≡ None
+lines_allowed text allowed = last_listed (lines_of text) 0 (none_later (byte_refusal (bad_line text)) (last_netlist_refusal (lines_of text) 0) allowed)
 
-module _ (text : List ℕ) (net : NetlistOf) (is : net ≡ netlist_in text) (allowed : text_refusal Netlist text ≡ None) where
+module _ (text : List ℕ) (net : NetlistOf) (is : net ≡ netlist_in text) (allowed : netlist_text_refusal text ≡ None) where
   pub latches_of_text : length net.circuit.latches ≤ 64
   latches_of_text = few_latches Netlist (first_lines (lines_of text)) net is (section_allowed Netlist (lines_of text) 0 (lines_allowed text allowed))
 
   pub nets_of_text : nets net.circuit ≤ most_nets
   nets_of_text = few_nets Netlist (first_lines (lines_of text)) net is (section_allowed Netlist (lines_of text) 0 (lines_allowed text allowed))
 
-pub refused_netlist : (text : List ℕ) (given : Refusal) → IsRefusedBy (text_refusal Netlist text) given → IsRefusedBy (vectors_refusal text) given
+pub refused_netlist : (text : List ℕ) (given : Refusal) → IsRefusedBy (netlist_text_refusal text) given → IsRefusedBy (vectors_refusal text) given
 refused_netlist text given refused =
-    refused_first (text_refusal Netlist text) (points_refusal (has_too_many_points (netlist_in text).circuit (plan_in text))) given refused
+    refused_first (netlist_text_refusal text) (points_refusal (has_too_many_points (netlist_in text).circuit (plan_in text))) given refused
 
 -- a netlist that was read, with its plan
 module _ (text : List ℕ) (net : NetlistOf) (plan : CodePlan) (is : net ≡ netlist_in text) (denoted : DenotesNetlist (first_lines (lines_of text)) net plan) where
   same_points : points_refusal (has_too_many_points net.circuit plan) ≡ points_refusal (has_too_many_points (netlist_in text).circuit (plan_in text))
   same_points = ap₂ (λ (n : NetlistOf) (p : CodePlan). points_refusal (has_too_many_points n.circuit p)) is (sym (plan_denoted (lines_of text) 0 net plan is denoted))
 
-  pub refused_points : (given : Refusal) → text_refusal Netlist text ≡ None → IsRefusedBy (points_refusal (has_too_many_points net.circuit plan)) given
+  pub refused_points : (given : Refusal) → netlist_text_refusal text ≡ None → IsRefusedBy (points_refusal (has_too_many_points net.circuit plan)) given
       → IsRefusedBy (vectors_refusal text) given
   refused_points given allowed refused =
       let P : Option TextRefusal → Type 0 = λ r. IsRefusedBy r given in
-      refused_later (text_refusal Netlist text) (points_refusal (has_too_many_points (netlist_in text).circuit (plan_in text))) given allowed (subst P same_points refused)
+      refused_later (netlist_text_refusal text) (points_refusal (has_too_many_points (netlist_in text).circuit (plan_in text))) given allowed (subst P same_points refused)
 
-  pub allowed_points : text_refusal Netlist text ≡ None → points_refusal (has_too_many_points net.circuit plan) ≡ None → vectors_refusal text ≡ None
+  pub allowed_points : netlist_text_refusal text ≡ None → points_refusal (has_too_many_points net.circuit plan) ≡ None → vectors_refusal text ≡ None
   allowed_points allowed few =
-      allowed_both (text_refusal Netlist text) (points_refusal (has_too_many_points (netlist_in text).circuit (plan_in text))) allowed (sym same_points ∙ few)
+      allowed_both (netlist_text_refusal text) (points_refusal (has_too_many_points (netlist_in text).circuit (plan_in text))) allowed (sym same_points ∙ few)
 
   pub are_tests : (tests : List (Option Point)) → AreTests net.circuit plan tests → AreTests (netlist_in text).circuit (plan_in text) tests
   are_tests tests right =

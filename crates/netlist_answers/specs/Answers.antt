@@ -12,6 +12,9 @@ use Rattle.audit.specs.declared.verdict.Reason.{Reason}
 use Rattle.audit.specs.declared.verdict.Verdict.TheVariants.{Yes, No}
 use Rattle.vectors.specs.Vectors.{AreTests}
 use Rattle.lane_sim.specs.declared.point.Point.{Point}
+use Rattle.grading_laws.specs.Grades.{Grade}
+use Rattle.grading_laws.specs.Counts.{AreGrades}
+use Rattle.sim_text.specs.StepLines.{all_steps}
 use Rattle.refusals.specs.declared.ending.Ending.{Ending}
 use Rattle.refusals.specs.declared.ending.Ending.TheVariants.{Finished, Rejected}
 use Rattle.commands.specs.declared.sim_words.SimFault.{SimFault}
@@ -19,6 +22,7 @@ use Rattle.commands.specs.declared.source_format.SourceFormat.{SourceFormat}
 use Rattle.text_sections.specs.Denoted.{behind_source, first_any_plan, first_net, lines_behind, net_from, netlist_in, plan_from, plan_in, second_netlist_in, second_plan_in, source_in, source_of}
 use Rattle.netlist_answers.specs.FaultList.{fault_list}
 use Rattle.netlist_answers.specs.VectorList.{vector_list}
+use Rattle.netlist_answers.specs.GradeText.{grade_list}
 use Rattle.netlist_answers.specs.VerdictText.{verdict_text}
 use Rattle.netlist_answers.specs.Simulated.{IsRunOf}
 
@@ -31,6 +35,17 @@ pub record IsVectorList (text answer : List ℕ) : Type 0 where
   pub tests : List (Option Point)
   pub right : AreTests (netlist_in text).circuit (plan_in text) tests
   pub listed : answer ≡ vector_list (netlist_in text) tests
+
+-- the answer is the list of the grades of the netlist and the plan that the first section of the lines denotes: each listed fault has its
+-- grade over the step lines after the section, with the fault at every step beside the run without one
+pub record IsGradeListOf (lines : List TextLine) (answer : List ℕ) : Type 0 where
+  pub grades : List Grade
+  pub right : AreGrades (first_net lines).circuit (first_any_plan lines) (all_steps (first_net lines).circuit.inputs (lines_behind lines)) grades
+  pub listed : answer ≡ grade_list (first_net lines) grades
+
+-- the same of the lines of a text
+abbrev pub IsGradeReply : List ℕ → List ℕ → Type 0
+IsGradeReply text answer = IsGradeListOf (lines_of text) answer
 
 -- the answer is the run of the netlist that the first section of the lines denotes, over the step lines after it
 abbrev pub IsSimulation : SimFault → List TextLine → List ℕ → Type 0

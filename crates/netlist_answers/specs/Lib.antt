@@ -1,6 +1,7 @@
 pub mod Refused
 pub mod FaultList
 pub mod VectorList
+pub mod GradeText
 pub mod Audited
 pub mod VerdictText
 pub mod Answers

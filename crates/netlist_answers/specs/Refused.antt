@@ -8,7 +8,7 @@ use Rattle.audit.specs.Verdict.{audit_points}
 use Rattle.fault_secure.specs.Logic.{Logic}
 use Rattle.fault_secure.specs.Circuit.{Circuit}
 use Rattle.fault_secure.specs.CodePlan.{CodePlan}
-use Rattle.blif_read.specs.declared.kinds.Kind.TheVariants.{AnyPlan, Netlist}
+use Rattle.blif_read.specs.declared.kinds.Kind.TheVariants.{AnyPlan}
 use Rattle.refusals.specs.declared.limit.Limit.TheVariants.{Points, AuditPoints}
 use Rattle.refusals.specs.declared.text_refusal.TextRefusal.{TextRefusal}
 use Rattle.refusals.specs.declared.text_refusal.TextRefusal.TheVariants.{NotListed, StepShape, TooMany}
@@ -17,7 +17,7 @@ use Rattle.commands.specs.declared.source_format.SourceFormat.{SourceFormat}
 use Rattle.text_sections.specs.Denoted.{behind_source, first_net, lines_behind, netlist_in, plan_in, source_of}
 use Rattle.netlist_answers.specs.Simulated.{is_place_listed}
 use Rattle.sim_text.specs.StepLines.{first_misshapen}
-use Rattle.text_sections.specs.Refused.{byte_refusal, first_of, first_refusal, netlist_refusal, source_refusal, text_refusal}
+use Rattle.text_sections.specs.Refused.{byte_refusal, first_of, first_refusal, netlist_refusal, netlist_text_refusal, source_refusal}
 use Rattle.fault_secure.specs.Exposing.{point_count}
 
 -- there are more than 65,536 points, a listed state and an input each
@@ -31,7 +31,7 @@ points_refusal false = None
 
 -- a netlist whose points are tried: its text, then the number of its points
 abbrev pub vectors_refusal : List ℕ → Option TextRefusal
-vectors_refusal text = first_of (text_refusal Netlist text) (points_refusal (has_too_many_points (netlist_in text).circuit (plan_in text)))
+vectors_refusal text = first_of (netlist_text_refusal text) (points_refusal (has_too_many_points (netlist_in text).circuit (plan_in text)))
 
 -- a fault that is not on the list
 abbrev pub place_refusal : Bool → Option TextRefusal

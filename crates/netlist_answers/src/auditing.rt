@@ -144,7 +144,7 @@ pub fn behind_source(format: SourceFormat, lines: &Lines) -> usize
 ///
 /// # Errors
 ///
-/// There is no line; the first refusal of the section; a line left behind it; or want of memory.
+/// There is no line; the first refusal of the section; a line left behind it; registers of which no states are listed; or want of memory.
 pub fn netlist_behind(alloc: Global, lines: &Lines, from: usize) -> Result<PlannedNetlist, Refusal>
     requires within { from ≤ length lines.now }
     ensures net { IfOk result (λ read. read.net ≡ net_from lines.now from) }

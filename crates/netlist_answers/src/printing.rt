@@ -5,6 +5,7 @@ ghost use Rattle.netlist_answers.specs.Devices.{Gains, GainsPrefix, sink_call};
 ghost use Rattle.netlist_answers.specs.Printout.{IsPrintable, printout_text};
 
 use crate::fault_list::print_fault_list;
+use crate::grade_list::print_grade_list;
 use crate::printout::Printout;
 use crate::vector_list::print_vector_list;
 use buffered_sink::{Page, finish, print};
@@ -44,6 +45,7 @@ fn print_printout<K: Sink>(
         Printout::Whole(reply) => print(sink, page, reply.bytes.as_slice()),
         Printout::FaultList(net) => print_fault_list(sink, page, net),
         Printout::VectorList(tested) => print_vector_list(sink, page, tested),
+        Printout::GradeList(graded) => print_grade_list(sink, page, graded),
         Printout::Joint(joint) => print_joint(sink, page, joint),
     }
 }

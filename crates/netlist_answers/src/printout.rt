@@ -3,6 +3,7 @@ ghost use Rattle.std.specs.Prelude.{◌≡◌};
 ghost use Rattle.netlist_answers.specs.Printout.{printout_ending};
 
 use crate::reply::Reply;
+use fault_grades::GradeList;
 use joint_text::Joint;
 use refusals::Ending;
 use tsc_net::{Faults, Netlist};
@@ -17,6 +18,8 @@ pub enum Printout {
     FaultList(Netlist),
     /// The list of the test vectors of a netlist.
     VectorList(TestedNetlist),
+    /// The list of the grades of a netlist's faults.
+    GradeList(GradedNetlist),
     /// The joint of netlists.
     Joint(Joint),
 }
@@ -32,6 +35,17 @@ pub struct TestedNetlist {
     pub tests: Tests,
 }
 
+/// A netlist, its listed faults, and their grades.
+#[derive(Drop)]
+pub struct GradedNetlist {
+    /// The netlist.
+    pub net: Netlist,
+    /// Its listed faults.
+    pub faults: Faults,
+    /// The grades of the faults, in the same order.
+    pub grades: GradeList,
+}
+
 impl Printout {
     /// How the command ends.
     pub fn ending(&self) -> Ending
@@ -40,7 +54,7 @@ impl Printout {
         match self {
             Printout::Whole(reply) => reply.ending,
             Printout::FaultList(_) | Printout::VectorList(_) => Ending::Finished,
-            Printout::Joint(_) => Ending::Finished,
+            Printout::GradeList(_) | Printout::Joint(_) => Ending::Finished,
         }
     }
 }

@@ -92,7 +92,11 @@ fn print_run<K: Sink>(
 }
 
 /// The step lines from the place `from` on.
-fn step_lines<'a>(
+///
+/// # Errors
+///
+/// A line that is no step's.
+pub(crate) fn step_lines<'a>(
     lines: &'a Lines<'a>,
     from: usize,
     inputs: usize,

@@ -31,6 +31,7 @@ use Rattle.text_sections.specs.Refused.{behind_refusal, byte_refusal, last_refus
 use Rattle.text_sections.proofs.AnyPlans.{any_first}
 use Rattle.text_sections.proofs.LimitLemmas.{few_latches}
 use Rattle.text_sections.proofs.SectionLemmas.{allowed_both, none_first, none_later, section_allowed}
+use Rattle.text_sections.proofs.StateLemmas.{behind_listed}
 use Rattle.mapping_answers.specs.MappedClocks.{has_other_clock, lines_have_other_clock, text_has_other_clock}
 use Rattle.mapping_answers.specs.MappedReply.{IsMappingOf, IsYes}
 use Rattle.mapping_answers.specs.MappedSections.{mapped_in, mapped_net, mapped_refusal}
@@ -166,7 +167,7 @@ module _ (answer : List ℕ) (readable : text_refusal Netlist answer ≡ None) (
       allowed_lines (answer ++ answer) joined (sym joined_lines) (allowed_in_a_row answer answer bytes bytes)
       (allowed_behind joined (length lines) (sym next)
       (ap (λ ls. section_refusal AnyPlan (refusal AnyPlan ls)) kept ∙ any_first lines (none_first (refusal_from Netlist lines 0) (left_over lines) all_allowed))
-      (passed_over joined (length lines) (netlist_allowed more lines lines all_allowed)))
+      (passed_over joined (length lines) (behind_listed joined (length lines) (netlist_allowed more lines lines all_allowed))))
 
   -- both netlists are the answer's
   same_first : netlist_in (answer ++ answer) ≡ N

@@ -942,8 +942,20 @@ static STATELESS: [Refused; 13] = [
     (b"audit exact kiss", TWO_STATES, DUPLEX_TICKED, 3, NO_STATES),
     (b"ask exact", AND2, WATCHED_HELD, 3, NO_STATES),
     // What refuses the source, and a line after the netlist, come first.
-    (b"audit blif", TICKED, DUPLEX_TICKED, 3, b"tsc: line 4: latch in a source\n"),
-    (b"vectors", DUPLEX_TICKED, b".model m\n", 3, b"tsc: line 48: after the end\n"),
+    (
+        b"audit blif",
+        TICKED,
+        DUPLEX_TICKED,
+        3,
+        b"tsc: line 4: latch in a source\n",
+    ),
+    (
+        b"vectors",
+        DUPLEX_TICKED,
+        b".model m\n",
+        3,
+        b"tsc: line 48: after the end\n",
+    ),
     (
         b"audit blif",
         AND2,

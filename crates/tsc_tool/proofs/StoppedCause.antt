@@ -12,7 +12,7 @@ use Rattle.pla_read.specs.declared.error.PlaError.TheVariants as pla
 use Rattle.refusals.specs.declared.refusal.Refusal.{Refusal}
 use Rattle.refusals.specs.declared.refusal.Refusal.TheVariants.{Usage as NoMeaning, ReadFault as CannotRead, WriteFault as CannotWrite, Memory as NoMemory, TooLong, Text, Beyond}
 use Rattle.refusals.specs.declared.text_refusal.TextRefusal.{TextRefusal}
-use Rattle.refusals.specs.declared.text_refusal.TextRefusal.TheVariants.{BadByte, Blif, Kiss, Pla, AfterTheEnd, NoNetlist, NotListed, StepShape, TooMany}
+use Rattle.refusals.specs.declared.text_refusal.TextRefusal.TheVariants.{BadByte, Blif, Kiss, Pla, AfterTheEnd, NoNetlist, NotListed, NoStates, StepShape, Refutation, TooMany}
 use Rattle.commands.specs.declared.request.Request.{Request}
 use Rattle.commands.specs.declared.request.Request.TheVariants.{Read, Make, Help}
 use Rattle.refusals.specs.declared.status.Status.{Status}
@@ -78,7 +78,9 @@ text_stopped (Pla error) = pla_stopped error
 text_stopped (AfterTheEnd line) = tt
 text_stopped NoNetlist = tt
 text_stopped NotListed = tt
+text_stopped NoStates = tt
 text_stopped (StepShape line) = tt
+text_stopped (Refutation fault) = tt
 text_stopped (TooMany limit) = tt
 
 -- what was asked for has a meaning, so it isn't stopped for having none
