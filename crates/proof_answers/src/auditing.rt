@@ -4,10 +4,10 @@ ghost use Rattle.fault_secure.specs.CodePlan.{IsPlanOf};
 ghost use Rattle.text_sections.specs.Denoted.{net_from, plan_from};
 ghost use Rattle.text_sections.specs.Refused.{IsRefusedBy};
 ghost use Rattle.question_answers.specs.NoQuestion.{no_question_text};
-ghost use Rattle.question_answers.specs.Sizes.{most_lines, size_of};
 ghost use Rattle.refusals.specs.declared.ending.Ending.TheVariants.{Rejected};
 ghost use Rattle.proof_answers.specs.ProofReply.{IsProofLinesReply, IsProofReply, IsProofReplyFrom, IsProofReplyOf};
 ghost use Rattle.proof_answers.specs.Refused.{proof_lines_refusal, proof_refusal, proof_refusal_from, refutation_refusal};
+ghost use Rattle.proof_answers.specs.Sizes.{AreFew, AreSmall};
 
 use crate::refuting::proved;
 use netlist_answers::Reply;
@@ -38,7 +38,7 @@ pub fn audit_proof(alloc: Global, text: &Bytes) -> Result<Reply, Refusal>
 
 /// The answer on the network that the lines begin with, and what stands after it.
 fn proof_lines(alloc: Global, lines: &Lines) -> Result<Reply, Refusal>
-    requires few { length lines.now ≤ most_lines }
+    requires few { AreFew lines.now }
     ensures answers { IfOk result (λ reply. IsProofLinesReply reply.ending lines.now reply.bytes) }
     ensures allowed { OnOk result (proof_lines_refusal lines.now ≡ None) }
     ensures refused { IfErr result (IsRefusedBy (proof_lines_refusal lines.now)) }
@@ -50,10 +50,10 @@ fn proof_lines(alloc: Global, lines: &Lines) -> Result<Reply, Refusal>
 /// The answer on a network, the netlist that the lines from the place `from` on denote, and the refutation after it.
 fn proof_from(alloc: Global, source: &Netlist, lines: &Lines, from: usize) -> Result<Reply, Refusal>
     requires within { from ≤ length lines.now }
-    requires few { length lines.now ≤ most_lines }
+    requires few { AreFew lines.now }
     requires latches { length source.now.circuit.latches ≡ 0 }
     requires inputs { source.now.circuit.inputs ≤ 1024 }
-    requires small { size_of source.now.circuit.nodes ≤ most_lines }
+    requires small_source { AreSmall source.now.circuit.nodes }
     ensures answers { IfOk result (λ reply. IsProofReplyFrom reply.ending source.now lines.now from reply.bytes) }
     ensures allowed { OnOk result (proof_refusal_from source.now.circuit lines.now from ≡ None) }
     ensures refused { IfErr result (IsRefusedBy (proof_refusal_from source.now.circuit lines.now from)) }
@@ -81,15 +81,15 @@ fn proof_read(
 ) -> Result<Reply, Refusal>
     requires latches { length source.now.circuit.latches ≡ 0 }
     requires inputs { source.now.circuit.inputs ≤ 1024 }
-    requires small_source { size_of source.now.circuit.nodes ≤ most_lines }
-    requires small { size_of read.now.net.circuit.nodes ≤ most_lines }
+    requires small_source { AreSmall source.now.circuit.nodes }
+    requires small { AreSmall read.now.net.circuit.nodes }
     requires plan { IsPlanOf read.now.net.circuit read.now.plan }
     ensures answers { IfOk result (λ reply. IsProofReplyOf reply.ending source.now read.now.net read.now.plan (drop from lines.now) reply.bytes) }
     ensures allowed { OnOk result (refutation_refusal source.now.circuit read.now.net.circuit read.now.plan (drop from lines.now) ≡ None) }
     ensures refused { IfErr result (IsRefusedBy (refutation_refusal source.now.circuit read.now.net.circuit read.now.plan (drop from lines.now))) }
 {
     match no_question(source, &read.net, &read.plan) {
-        None => proved(alloc, source, read, lines, from),
+        None => proved(alloc, source, &read.net, &read.plan, lines, from),
         Some(why) => match not_asked(alloc, why) {
             Ok(reply) => Ok(reply),
             Err(error) => Err(Refusal::Memory(error)),

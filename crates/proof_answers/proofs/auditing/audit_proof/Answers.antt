@@ -1,12 +1,11 @@
 -- The text's bytes, then its lines.
-use Rattle.std.proofs.Common.{◌≤◌, List, length, IfOk, sym, subst, arith}
+use Rattle.std.proofs.Common.{List, IfOk, subst}
 use Rattle.std.proofs.lemmas.Result.{err_from_is_err_and, IfErr-weaker, on_ok_weaker}
 use Rattle.tsc_text.specs.TextLine.{TextLine}
 use Rattle.text_sections.specs.Refused.{IsRefusedBy}
-use Rattle.question_answers.specs.Sizes.{most_lines}
-use Rattle.question_answers.proofs.LineCounts.{lines_of_few}
 use Rattle.proof_answers.specs.ProofReply.{IsProofLinesReply}
 use Rattle.proof_answers.specs.Refused.{proof_lines_refusal, proof_refusal}
+use Rattle.proof_answers.proofs.Few.{few_lines}
 use Rattle.proof_answers.proofs.Replies.{allowed_lines, refused_bytes, refused_lines}
 use Rattle.proof_answers.proofs.auditing.audit_proof.Goals as goal
 
@@ -16,9 +15,7 @@ returns-in_err-lines-clause-refused c =
     refused_bytes c.args.text.now c.in_err-lines.field-0.0 c.in_err-lines.ensures.refused)
 
 pub proof_lines-requires : goal.proof_lines-requires
-proof_lines-requires c =
-    let P : List TextLine → Type 0 = λ l. length l ≤ most_lines in
-    record { few = subst P (sym c.in_ok-lines.ensures.lines) (omega (arith, lines_of_few c.args.text.now, c.requires.short)) }
+proof_lines-requires c = record { few = few_lines c.args.text.now c.in_ok-lines.lines c.in_ok-lines.ensures.lines c.requires.short }
 
 pub returns-clause-answers : goal.returns-clause-answers
 returns-clause-answers c =

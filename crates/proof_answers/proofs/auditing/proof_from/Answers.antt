@@ -1,16 +1,13 @@
 -- The netlist after the network, then the refutation after it.
-use Rattle.std.proofs.Common.{◌≡◌, ◌<◌, ◌≤◌, List, drop, length, sym, ap, subst, arith}
+use Rattle.std.proofs.Common.{◌≡◌, ◌<◌, ◌≤◌, drop, length, sym, ap, arith}
 use Rattle.std.proofs.lemmas.Result.{err_from_is_err_and, IfErr-weaker, on_ok_weaker}
-use Rattle.tsc_net.specs.NetlistOf.{NetlistOf}
-use Rattle.tsc_text.specs.TextLine.{TextLine}
 use Rattle.tsc_text.specs.declared.section.Section.{Section}
 use Rattle.text_sections.specs.Denoted.{net_from, plan_from}
 use Rattle.text_sections.specs.Refused.{IsRefusedBy, first_of, netlist_section_refusal}
 use Rattle.text_sections.proofs.BehindLemmas.{no_netlist}
 use Rattle.text_sections.proofs.DenotedLemmas.{plan_denoted}
-use Rattle.question_answers.specs.Sizes.{most_lines, size_of}
-use Rattle.question_answers.proofs.Sized.{size_from}
 use Rattle.proof_answers.specs.Refused.{proof_refusal_from, refutation_after, refutation_refusal}
+use Rattle.proof_answers.proofs.Few.{small_net}
 use Rattle.proof_answers.proofs.Replies.{allowed_refutation, refused_netlist, refused_refutation, reply_after}
 use Rattle.proof_answers.proofs.auditing.proof_from.Goals as goal
 
@@ -30,9 +27,7 @@ returns-in_err-read-clause-refused c =
     refused_netlist c.args.source.now.circuit c.args.lines.now c.args.from c.in_err-read.field-0.0 there c.in_err-read.ensures.refused)
 
 pub proof_read-requires-clause-small : goal.proof_read-requires-clause-small
-proof_read-requires-clause-small c =
-    let P : NetlistOf → Type 0 = λ n. size_of n.circuit.nodes ≤ most_lines in
-    subst P (sym c.in_ok-read.ensures.exact) (omega (arith, size_from c.args.lines.now c.args.from, c.requires.few))
+proof_read-requires-clause-small c = small_net c.args.lines.now c.args.from c.in_ok-read.read.net c.in_ok-read.ensures.exact c.requires.few
 
 pub returns-clause-answers : goal.returns-clause-answers
 returns-clause-answers c =

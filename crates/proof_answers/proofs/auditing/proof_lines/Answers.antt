@@ -1,11 +1,8 @@
 -- The network, then what stands after it.
-use Rattle.std.proofs.Common.{◌≤◌, sym, subst, arith}
 use Rattle.std.proofs.lemmas.Result.{err_from_is_err_and, IfErr-weaker, on_ok_weaker}
-use Rattle.tsc_net.specs.NetlistOf.{NetlistOf}
 use Rattle.text_sections.specs.Refused.{IsRefusedBy}
-use Rattle.question_answers.specs.Sizes.{most_lines, size_of}
-use Rattle.question_answers.proofs.Sized.{size_from}
 use Rattle.proof_answers.specs.Refused.{proof_lines_refusal, proof_refusal_from}
+use Rattle.proof_answers.proofs.Few.{small_net}
 use Rattle.proof_answers.proofs.Replies.{allowed_from, refused_from, refused_source, reply_from}
 use Rattle.proof_answers.proofs.auditing.proof_lines.Goals as goal
 
@@ -14,10 +11,8 @@ returns-in_err-source-clause-refused c =
     let p = err_from_is_err_and c.from_residual.result c.from_residual.ensures.1 in rw (p.1, p.2) (
     refused_source c.args.lines.now c.in_err-source.field-0.0 c.in_err-source.ensures.refused)
 
-pub proof_from-requires-clause-small : goal.proof_from-requires-clause-small
-proof_from-requires-clause-small c =
-    let P : NetlistOf → Type 0 = λ n. size_of n.circuit.nodes ≤ most_lines in
-    subst P (sym c.in_ok-source.ensures.exact) (omega (arith, size_from c.args.lines.now 0, c.requires.few))
+pub proof_from-requires-clause-small_source : goal.proof_from-requires-clause-small_source
+proof_from-requires-clause-small_source c = small_net c.args.lines.now 0 c.in_ok-source.source c.in_ok-source.ensures.exact c.requires.few
 
 pub returns-clause-answers : goal.returns-clause-answers
 returns-clause-answers c =
