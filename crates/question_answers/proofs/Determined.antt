@@ -21,7 +21,8 @@ use Rattle.question_answers.specs.Laws.{OneQuestionReply}
 -- ---- a misfit excludes the others, and the question
 
 module _ (C N : Circuit) (P : CodePlan) where
-  fits_or_other : (what : What) → FitsSource (Network C) N P → HasOther (Network C) N P what → ⊥
+  -- what fits has no other shape
+  pub fits_or_other : (what : What) → FitsSource (Network C) N P → HasOther (Network C) N P what → ⊥
   fits_or_other Inputs fits other = other fits.inputs
   fits_or_other Outputs fits other = other.1 fits.outputs
   fits_or_other States fits other = other.1.1 fits.states
@@ -37,7 +38,8 @@ module _ (C N : Circuit) (P : CodePlan) where
   one_shape States Outputs first second = absurd (second.1 first.1.0)
   one_shape States States first second = refl
 
-  one_misfit : (a b : NoQuestion) → IsFirstMisfit C N P a → IsFirstMisfit C N P b → a ≡ b
+  -- there is one first misfit
+  pub one_misfit : (a b : NoQuestion) → IsFirstMisfit C N P a → IsFirstMisfit C N P b → a ≡ b
   one_misfit (Shape a) (Shape b) first second = ap Shape (one_shape a b first second)
   one_misfit (Shape a) Latched first second = absurd (fits_or_other a second.0 first)
   one_misfit (Shape a) Parity first second = absurd (fits_or_other a second.0 first)

@@ -46,7 +46,7 @@ row_few copy j r (l ∷ []) = omega arith
 row_few copy j r (l ∷ m ∷ ls) = omega arith
 
 -- a node asks no more rows than its cover has
-rows_few : (n : NodeOf) → length (rows_of n) ≤ length n.cover.rows
+pub rows_few : (n : NodeOf) → length (rows_of n) ≤ length n.cover.rows
 rows_few n =
     let lists : List (List Literal) = map (λ (row : List PinLiteral). asked row n.reads) n.cover.rows in
     let kept : List Literal → Bool = λ ls. not (clashes ls) in
@@ -81,7 +81,7 @@ inputs_few zero = omega arith
 inputs_few (suc n) = omega (arith, length-append (input_variables n) (Input n ∷ []), inputs_few n)
 
 -- each output stands in one group
-places_few : (P : CodePlan) → HasGroups P → length (concat_places P.groups) ≤ P.outputs
+pub places_few : (P : CodePlan) → HasGroups P → length (concat_places P.groups) ≤ P.outputs
 places_few P has = omega (arith, all_below P.outputs (concat_places P.groups) has.within, few_below P.outputs (concat_places P.groups) has.once)
 
 -- ---- all of them

@@ -11,4 +11,4 @@ mod reason;
 
 pub use asking::ask_exactly;
 pub use laws::one_question_reply;
-pub use reason::NoQuestion;
+pub use reason::{NoQuestion, no_question, no_question_text};

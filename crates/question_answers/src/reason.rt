@@ -21,7 +21,7 @@ pub enum NoQuestion {
 }
 
 /// Why no question is asked of a network and a netlist with its plan, if there is a reason.
-pub(crate) fn no_question(source: &Netlist, net: &Netlist, plan: &Plan) -> Option<NoQuestion>
+pub fn no_question(source: &Netlist, net: &Netlist, plan: &Plan) -> Option<NoQuestion>
     ensures fit { IsFit source.now.circuit net.now.circuit plan.now result }
 {
     if let Some(shape) = shape_reason(&SourceMeaning::Network(source), net, plan) {
@@ -37,7 +37,11 @@ pub(crate) fn no_question(source: &Netlist, net: &Netlist, plan: &Plan) -> Optio
 }
 
 /// The line of a reason: `no` and the reason.
-pub(crate) fn no_question_text(alloc: Global, why: NoQuestion) -> Result<Bytes, AllocError>
+///
+/// # Errors
+///
+/// Want of memory.
+pub fn no_question_text(alloc: Global, why: NoQuestion) -> Result<Bytes, AllocError>
     ensures text { IfOk result (λ text. text ≡ no_question_text why) }
 {
     let mut out = Bytes::new(alloc);

@@ -1,0 +1,4 @@
+pub mod Refused
+pub mod ProofReply
+pub mod Sizes
+pub mod Laws
