@@ -4,7 +4,7 @@
 # The words that may come behind those that are there, `_` where any word may come.
 _tsc_next() {
     case "$*" in
-    '') echo 'synth ask audit faults vectors sim make join help' ;;
+    '') echo 'synth ask audit faults vectors grade sim make join help' ;;
     synth) echo 'blif kiss pla' ;;
     'synth blif') echo 'parity berger mofn duplex watched' ;;
     'synth pla') echo 'parity berger mofn duplex' ;;

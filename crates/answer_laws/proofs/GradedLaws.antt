@@ -6,13 +6,14 @@ use Rattle.tsc_text.specs.Bytes.{bad_line}
 use Rattle.tsc_text.specs.Lines.{lines_of}
 use Rattle.tsc_net.specs.When.{has_step}
 use Rattle.tsc_net.specs.declared.when.Span.{Span}
+use Rattle.fault_secure.specs.Circuit.{Circuit}
 use Rattle.fault_secure.specs.CodePlan.{CodePlan}
 use Rattle.fault_secure.specs.Run.{Runs}
 use Rattle.fault_secure.specs.Settle.{Acyclic}
 use Rattle.fault_secure.specs.StuckAt.{StuckAt}
 use Rattle.fault_sim.specs.Calls.{steps_held}
 use Rattle.sim_text.specs.StepLines.{all_steps, step_bits}
-use Rattle.grading_laws.specs.Grades.{Grade, IsGrade, Unseen, every_step}
+use Rattle.grading_laws.specs.Grades.{Grade, SilentAt, IsGrade, IsSilentAt, Unseen, every_step}
 use Rattle.grading_laws.specs.GradeLaws.{AlarmSecureHasNoSilent, AlarmsAreShown, CellSecureHasNoSilent, FaultSecureHasNoSilent, NoneIsSilent, RegisterAlarmSecureHasNoSilent, RegisterSecureHasNoSilent}
 use Rattle.grading_laws.specs.Counts.{EachHasOneGrading, NoSilentIsCounted}
 use Rattle.blif_read.specs.declared.kinds.Kind.TheVariants.{AnyPlan}
@@ -24,7 +25,7 @@ use Rattle.netlist_answers.specs.GradeText.{grade_list}
 use Rattle.netlist_answers.specs.Refused.{run_refusal, sim_lines_refusal, sim_refusal}
 use Rattle.netlist_answers.specs.Simulated.{steps_of}
 use Rattle.mapped_laws.specs.MappedLaws.{SectionsAreBuilt}
-use Rattle.answer_laws.specs.GradedLaws.{AlarmsAreSimulated, OneGradeReply, SecureTellsNoSilent, TellsNoSilent, any_plan_in, circuit_in}
+use Rattle.answer_laws.specs.GradedLaws.{AlarmsAreSimulated, OneGradeReply, SecureTellsNoSilent, TellsNoSilent, any_plan_in, circuit_in, with_latches}
 
 -- ---- one answer
 
@@ -47,15 +48,40 @@ one_grade_reply built one text answer other sound is also =
 
 -- ---- no silent fault
 
+-- a silent error is one, however many registers a plan has as latches: outputs and rails are the same
+module _ (N : Circuit) (Q : CodePlan) (latches : ℕ) where
+  abbrev counted : CodePlan
+  counted = record Q { latches = latches }
+
+  silent_at : (vs us : List (List Bool)) (step : ℕ) → IsSilentAt N Q vs us step → IsSilentAt N counted vs us step
+  silent_at vs us step is = record {
+    error = record { inside = is.error.inside; wrong = is.error.wrong; first = is.error.first };
+    quiet = is.quiet;
+  }
+
+  silent_grade : (f : StuckAt) (xs : List (List Bool)) (step : ℕ) → IsGrade N Q f xs (SilentAt step) → IsGrade N counted f xs (SilentAt step)
+  silent_grade f xs step is = record {
+    right = is.right;
+    faulty = is.faulty;
+    right_runs = is.right_runs;
+    faulty_runs = is.faulty_runs;
+    graded = silent_at is.right is.faulty step is.graded;
+  }
+
+  none_silent : NoneIsSilent N counted → NoneIsSilent N Q
+  none_silent none f xs step listed is = none f xs step listed (silent_grade f xs step is)
+
 module _ (count : NoSilentIsCounted) (text : List ℕ) where
   tells : NoneIsSilent (circuit_in text) (any_plan_in text) → TellsNoSilent text
   tells none answer reply =
       let N = circuit_in text in
       count N (any_plan_in text) (all_steps N.inputs (lines_behind (lines_of text))) reply.grades none reply.right
 
-  -- the same where the plan is that of the text
-  tells_of : (P : CodePlan) → P ≡ any_plan_in text → NoneIsSilent (circuit_in text) P → TellsNoSilent text
-  tells_of P is none = let Q : CodePlan → Type 0 = λ p. NoneIsSilent (circuit_in text) p in tells (subst Q is none)
+  -- the same where the plan is that of the text, with so many registers as latches
+  tells_of : (P : CodePlan) (latches : ℕ) → P ≡ with_latches latches text → NoneIsSilent (circuit_in text) P → TellsNoSilent text
+  tells_of P latches is none =
+      let Q : CodePlan → Type 0 = λ p. NoneIsSilent (circuit_in text) p in
+      tells (none_silent (circuit_in text) (any_plan_in text) latches (subst Q is none))
 
 pub secure_tells_no_silent : NoSilentIsCounted → FaultSecureHasNoSilent → CellSecureHasNoSilent → AlarmSecureHasNoSilent → RegisterSecureHasNoSilent
     → RegisterAlarmSecureHasNoSilent → SecureTellsNoSilent
@@ -63,8 +89,8 @@ secure_tells_no_silent count faults cells alarms registers register_alarms = rec
   faults = λ M text secure. tells count text (faults M (circuit_in text) (any_plan_in text) secure);
   cells = λ M text secure. tells count text (cells M (circuit_in text) (any_plan_in text) secure);
   alarms = λ M text allows secure. tells count text (alarms M (circuit_in text) (any_plan_in text) allows secure);
-  registers = λ S P text is secure. tells_of count text P.plan is (registers S (circuit_in text) P secure);
-  register_alarms = λ S P text is secure. tells_of count text P.plan is (register_alarms S (circuit_in text) P secure);
+  registers = λ S P latches text is secure. tells_of count text P.plan latches is (registers S (circuit_in text) P secure);
+  register_alarms = λ S P latches text is secure. tells_of count text P.plan latches is (register_alarms S (circuit_in text) P secure);
 }
 
 -- ---- alarms are simulated

@@ -39,14 +39,19 @@ any_plan_in text = first_any_plan (lines_of text)
 abbrev pub TellsNoSilent : List ℕ → Type 0
 TellsNoSilent text = (answer : List ℕ) (reply : IsGradeReply text answer) → count_by is_silent reply.grades ≡ 0
 
+-- the plan of a text, which has so many registers as latches: where it lists no states, the text's has them as further inputs
+abbrev pub with_latches : ℕ → List ℕ → CodePlan
+with_latches latches text = record (any_plan_in text) { latches = latches }
+
 -- so it is of a netlist that is fault-secure or secure against any one failing cell for some source, alarm-secure for one that allows one
 -- list of outputs, or secure or alarm-secure for a source with registers
 pub record SecureTellsNoSilent : Type 0 where
   pub faults : (M : Logic) (text : List ℕ) → IsFaultSecure M (circuit_in text) (any_plan_in text) → TellsNoSilent text
   pub cells : (M : Logic) (text : List ℕ) → IsCellSecure M (circuit_in text) (any_plan_in text) → TellsNoSilent text
   pub alarms : (M : Logic) (text : List ℕ) → AllowsOneOutput M (any_plan_in text).version → IsAlarmSecure M (circuit_in text) (any_plan_in text) → TellsNoSilent text
-  pub registers : (S : Circuit) (P : RegisterPlan) (text : List ℕ) → P.plan ≡ any_plan_in text → IsRegisterSecure S (circuit_in text) P → TellsNoSilent text
-  pub register_alarms : (S : Circuit) (P : RegisterPlan) (text : List ℕ) → P.plan ≡ any_plan_in text → IsRegisterAlarmSecure S (circuit_in text) P → TellsNoSilent text
+  pub registers : (S : Circuit) (P : RegisterPlan) (latches : ℕ) (text : List ℕ) → P.plan ≡ with_latches latches text → IsRegisterSecure S (circuit_in text) P → TellsNoSilent text
+  pub register_alarms : (S : Circuit) (P : RegisterPlan) (latches : ℕ) (text : List ℕ) → P.plan ≡ with_latches latches text → IsRegisterAlarmSecure S (circuit_in text) P
+      → TellsNoSilent text
 
 -- the fault is present at each step that the text has
 abbrev pub IsAtEachStep : SimFault → List ℕ → Type 0
