@@ -96,10 +96,10 @@ abbrev pub clock_at : Option TextLine → Option Clock
 clock_at None = None
 clock_at (Some first) = if has_clock first then Some (record { edge = edge_of (edge_word first); control = control_word first }) else None
 
--- the clock of registers; of other sections none is read
+-- the clock of registers, and of a netlist whose plan may list no states; of other sections none is read
 abbrev pub clock_text : Kind → List TextLine → Option Clock
 clock_text Source lines = None
 clock_text Registers lines = clock_at (first_latch lines)
 clock_text Netlist lines = None
-clock_text AnyPlan lines = None
+clock_text AnyPlan lines = clock_at (first_latch lines)
 clock_text Unplanned lines = None

@@ -192,7 +192,7 @@ fn first_clock(alloc: Global, section: &SectionLines) -> Result<Option<Clock>, A
     }
 }
 
-/// The clock of registers; of other sections none is read.
+/// The clock of registers, and of a netlist whose plan may list no states; of other sections none is read.
 ///
 /// # Errors
 ///
@@ -205,7 +205,7 @@ pub fn clock_of(
     ensures clock { IfOk result (λ clock. clock ≡ clock_text kind section.now) }
 {
     match kind {
-        Kind::Registers => first_clock(alloc, section),
-        Kind::Source | Kind::Netlist | Kind::AnyPlan | Kind::Unplanned => Ok(None),
+        Kind::Registers | Kind::AnyPlan => first_clock(alloc, section),
+        Kind::Source | Kind::Netlist | Kind::Unplanned => Ok(None),
     }
 }

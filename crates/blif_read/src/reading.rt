@@ -24,7 +24,7 @@ pub struct BlifText {
     pub net: Netlist,
     /// Its plan; a source and a netlist without a plan have none.
     pub plan: Option<Plan>,
-    /// The clock of registers, where they have one; of other sections none is read.
+    /// The clock of registers, and of a netlist whose plan may list no states, where they have one: that of the first latch.
     pub clock: Option<Clock>,
 }
 

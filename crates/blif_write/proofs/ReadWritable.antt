@@ -139,7 +139,7 @@ lines-clocked : (kind : Kind) (lines : List TextLine) → All (HasNames IsTextNa
 lines-clocked Source lines names = tt
 lines-clocked Registers lines names = clock-told (first_latch lines) (first-of lines names)
 lines-clocked Netlist lines names = tt
-lines-clocked AnyPlan lines names = tt
+lines-clocked AnyPlan lines names = clock-told (first_latch lines) (first-of lines names)
 lines-clocked Unplanned lines names = tt
 
 -- in a text of allowed bytes, what a section denotes that isn't refused is told by a text, with its clock
