@@ -39,9 +39,9 @@ fn is_latch(kind: LineKind) -> bool
     }
 }
 
-/// The first line of a latch.
+/// The first line of a latch. It takes no memory.
 #[tactic(auto, using(crate::proofs::ClockWalk::latch_here, crate::proofs::ClockWalk::latch_later, crate::proofs::ClockWalk::latch_end))]
-fn first_latch<'a>(section: &SectionLines<'a>) -> Option<TextLine<'a>>
+pub fn first_latch<'a>(section: &SectionLines<'a>) -> Option<TextLine<'a>>
     ensures line { result ≡ first_latch section.now }
 {
     for place in 0..section.len() {

@@ -26,7 +26,7 @@ mod reading;
 mod register_rules;
 mod seen;
 
-pub use clocks::{Clock, Edge, clock_misfit, used_clock};
+pub use clocks::{Clock, Edge, clock_misfit, first_latch, used_clock};
 pub use error::BlifError;
 pub use kinds::Kind;
 pub use reading::{BlifText, read_blif};
