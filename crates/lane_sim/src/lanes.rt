@@ -59,7 +59,7 @@ pub fn load<const N: usize>(words: &[u64], net: usize) -> Simd<u64, N>
 }
 
 /// Writes the first lanes of a row; the block has sixteen words per row.
-pub(crate) fn store<const N: usize>(block: &mut [u64], row: usize, lanes: Simd<u64, N>)
+pub fn store<const N: usize>(block: &mut [u64], row: usize, lanes: Simd<u64, N>)
     requires few { N ≤ 16 }
     requires room { row * 16 + 16 ≤ length block.old }
     ensures stored { (p : ℕ) → p < N * 64 → source_bit block.new row p ≡ lane_bit lanes.entry p }
@@ -70,7 +70,7 @@ pub(crate) fn store<const N: usize>(block: &mut [u64], row: usize, lanes: Simd<u
 }
 
 /// Lanes of the net whose words start at `start`, from its word `from` on, in a list that has sixteen words per net.
-pub(crate) fn load_part<const N: usize>(words: &[u64], start: usize, from: usize) -> Simd<u64, N>
+pub fn load_part<const N: usize>(words: &[u64], start: usize, from: usize) -> Simd<u64, N>
     requires few { from + N ≤ 16 }
     requires start { start % 16 ≡ 0 }
     requires room { start + 16 ≤ length words.now }
@@ -80,7 +80,7 @@ pub(crate) fn load_part<const N: usize>(words: &[u64], start: usize, from: usize
 }
 
 /// Writes lanes of the row that starts at the word `start`, from the row's word `from` on; the block has sixteen words per row.
-pub(crate) fn store_part<const N: usize>(
+pub fn store_part<const N: usize>(
     block: &mut [u64],
     start: usize,
     from: usize,

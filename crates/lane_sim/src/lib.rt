@@ -38,9 +38,12 @@ mod two_pins;
 pub use bench::Bench;
 pub use fault_bench::FaultBench;
 pub use lane_points::first_point;
-pub use lanes::{constant, differ, join, load, meet, signed, word_of};
+pub use lanes::{
+    constant, differ, join, load, load_part, meet, signed, store, store_part, word_of,
+};
 pub use place_lanes::{places_of, places_with, width_of};
 pub use places::{put_inputs, put_places};
 pub use point::{Point, point_at};
 pub use points::{Points, with_bit};
 pub use state_lanes::state_word;
+pub use steps::table_of;

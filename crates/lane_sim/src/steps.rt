@@ -316,8 +316,9 @@ fn net_or(reads: &[NetId], pin: usize, or: NetId) -> NetId
     if pin < reads.len() { reads[pin] } else { or }
 }
 
-/// The number of the function of a cover of at most two pins.
-fn table_of(cover: &Cover) -> u8
+/// The number of the function of a cover of at most two pins, as a sum modulo 2: 1 for a constant, 2 for the first bit, 4 for the
+/// second, 8 for their product.
+pub fn table_of(cover: &Cover) -> u8
     requires narrow { cover.now.width ≤ 2 }
     ensures table { IsTableOf cover.now cover.now.width result }
 {
