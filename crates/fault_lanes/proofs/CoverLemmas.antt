@@ -1,7 +1,7 @@
 -- Where rows and covers match, lane by lane.
 use Rattle.std.proofs.Common.{◌≡◌, ℕ, suc, ◌+◌, ◌-◌, ◌<◌, ◌≤◌, Bool, true, false, not, ◌&&◌, ◌||◌, cond, List, [], ◌∷◌, length, drop, take, get_or, refl, sym, ◌∙◌, ap, ap₂, arith, add-one}
 use Rattle.std.proofs.Math.Seq.{drop-cons}
-use Rattle.std.proofs.lemmas.List.{map_more}
+use Rattle.std.proofs.lemmas.List.{map_more, length-map, get_or-map}
 use Rattle.std.proofs.lemmas.List.Folds.{list_any-append}
 use Rattle.std.proofs.lemmas.List.FromFn.{length-map-range_with_len, get_or-map-range_with_len}
 use Rattle.tsc_bits.specs.Bits.{bit_worth, same}
@@ -9,8 +9,11 @@ use Rattle.tsc_bits.proofs.Bools.{and_assoc, and-true, or-false}
 use Rattle.tsc_cover.specs.Cover.{CoverTable, accepts, row_matches, literals, some_row_matches, truth}
 use Rattle.tsc_cover.specs.Row.{literal, literals_of_each}
 use Rattle.tsc_cover.specs.declared.rows.Row01.{Row01}
+use Rattle.tsc_net.specs.PlanView.{net_numbers}
+use Rattle.tsc_net.specs.declared.ids.NetId.{NetId}
 use Rattle.lane_sim.specs.Points.{source_bit}
 use Rattle.fault_lanes.specs.Bench.{bits_in}
+use Rattle.fault_lanes.specs.Settling.{bits_at}
 
 -- ---- the bits in a lane
 
@@ -19,6 +22,15 @@ length-bits_in words many lane = length-map-range_with_len (λ place. source_bit
 
 pub bit_in : (words : List ℕ) (many lane place : ℕ) → place < many → get_or (bits_in words many lane) place false ≡ source_bit words place lane
 bit_in words many lane place inside = get_or-map-range_with_len (λ place. source_bit words place lane) 0 many place place false inside (omega arith)
+
+pub length-bits_at : (words : List ℕ) (reads : List NetId) (lane : ℕ) → length (bits_at words (net_numbers reads) lane) ≡ length reads
+length-bits_at words reads lane = length-map (net_numbers reads) (λ row. source_bit words row lane) ∙ length-map reads (λ (net : NetId). net.number)
+
+bit_at : (words : List ℕ) (reads : List NetId) (lane pin : ℕ) (d : NetId) → pin < length reads
+    → get_or (bits_at words (net_numbers reads) lane) pin false ≡ source_bit words (get_or reads pin d).number lane
+bit_at words reads lane pin d inside =
+    get_or-map (λ row. source_bit words row lane) (net_numbers reads) pin d.number false (omega (arith, length-map reads (λ (net : NetId). net.number)))
+    ∙ ap (λ row. source_bit words row lane) (get_or-map (λ (net : NetId). net.number) reads pin d d.number inside)
 
 -- ---- rows
 
@@ -37,13 +49,13 @@ row_step bits width pin care value all next sized inside is =
     (row_matches (literals (width - (pin + 1)) care value) (drop (pin + 1) bits))
     ∙ sym (ap₂ (λ n list. all && row_matches (literals n care value) list) left here)
 
-pub row_more : (pins : List ℕ) (width pin care value lane : ℕ) (all next whole : Bool) → pin < width
-    → next ≡ (all && accepts (literal (bit_worth (width - 1 - pin) care) (bit_worth (width - 1 - pin) value)) (source_bit pins pin lane))
-    → (all && row_matches (literals (width - pin) care value) (drop pin (bits_in pins width lane))) ≡ whole
-    → (next && row_matches (literals (width - (pin + 1)) care value) (drop (pin + 1) (bits_in pins width lane))) ≡ whole
-row_more pins width pin care value lane all next whole inside is before =
-    row_step (bits_in pins width lane) width pin care value all next (length-bits_in pins width lane) inside
-    (is ∙ ap (λ b. all && accepts (literal (bit_worth (width - 1 - pin) care) (bit_worth (width - 1 - pin) value)) b) (sym (bit_in pins width lane pin inside)))
+pub row_more : (words : List ℕ) (reads : List NetId) (pin care value lane : ℕ) (d : NetId) (all next whole : Bool) → pin < length reads
+    → next ≡ (all && accepts (literal (bit_worth (length reads - 1 - pin) care) (bit_worth (length reads - 1 - pin) value)) (source_bit words (get_or reads pin d).number lane))
+    → (all && row_matches (literals (length reads - pin) care value) (drop pin (bits_at words (net_numbers reads) lane))) ≡ whole
+    → (next && row_matches (literals (length reads - (pin + 1)) care value) (drop (pin + 1) (bits_at words (net_numbers reads) lane))) ≡ whole
+row_more words reads pin care value lane d all next whole inside is before =
+    row_step (bits_at words (net_numbers reads) lane) (length reads) pin care value all next (length-bits_at words reads lane) inside
+    (is ∙ ap (λ b. all && accepts (literal (bit_worth (length reads - 1 - pin) care) (bit_worth (length reads - 1 - pin) value)) b) (sym (bit_at words reads lane pin d inside)))
     ∙ before
 
 pub row_end : (bits : List Bool) (width pin care value : ℕ) (all whole : Bool) → width ≤ pin → (all && row_matches (literals (width - pin) care value) bits) ≡ whole → all ≡ whole
@@ -72,8 +84,8 @@ turned true some = refl
 turned false some = refl
 
 -- a cover: where some row matches, turned where its rows are the off-set
-pub cover_is : (cover : CoverTable) (pins : List ℕ) (lane width : ℕ) (rows : List Row01) (on x some : Bool) → width ≡ cover.width → on ≡ cover.on → literals_of_each cover.width rows ≡ cover.rows
-    → x ≡ same on some → some ≡ some_row_matches (literals_of_each width rows) (bits_in pins width lane) → x ≡ truth cover (bits_in pins cover.width lane)
-cover_is cover pins lane width rows on x some wide turn same_rows is matches =
-    is ∙ ap₂ same turn (matches ∙ ap (λ n. some_row_matches (literals_of_each n rows) (bits_in pins n lane)) wide ∙ ap (λ list. some_row_matches list (bits_in pins cover.width lane)) same_rows)
-    ∙ turned cover.on (some_row_matches cover.rows (bits_in pins cover.width lane))
+pub cover_is : (cover : CoverTable) (bits : List Bool) (width : ℕ) (rows : List Row01) (on x some : Bool) → width ≡ cover.width → on ≡ cover.on → literals_of_each cover.width rows ≡ cover.rows
+    → x ≡ same on some → some ≡ some_row_matches (literals_of_each width rows) bits → x ≡ truth cover bits
+cover_is cover bits width rows on x some wide turn same_rows is matches =
+    is ∙ ap₂ same turn (matches ∙ ap (λ n. some_row_matches (literals_of_each n rows) bits) wide ∙ ap (λ list. some_row_matches list bits) same_rows)
+    ∙ turned cover.on (some_row_matches cover.rows bits)

@@ -1,5 +1,5 @@
 -- A settle in a lane: what the pins of a node read, and node after node along the evaluation order.
-use Rattle.std.proofs.Common.{◌≡◌, ◌≢◌, ℕ, zero, suc, ◌+◌, ◌-◌, ◌<◌, ◌≤◌, Bool, false, List, [], ◌∷◌, length, get_or, Contains, refl, sym, ap, ◌∙◌, subst, arith, below_more}
+use Rattle.std.proofs.Common.{◌≡◌, ◌≢◌, ℕ, zero, suc, ◌+◌, ◌-◌, ◌<◌, ◌≤◌, Bool, false, List, [], ◌∷◌, length, map, take, get_or, Contains, refl, sym, ap, ap₂, ◌∙◌, subst, arith, below_more}
 use Rattle.std.specs.Prelude.{slice_index, slice_index_or}
 use Rattle.std.proofs.Math.Logic.{⊎_elim}
 use Rattle.std.proofs.lemmas.Bool.{cases_lt}
@@ -12,15 +12,22 @@ use Rattle.fault_secure.specs.Settle.{Settles, Acyclic}
 use Rattle.fault_secure.specs.OneRun.{HasOneValuation}
 use Rattle.fault_secure.proofs.OneRun.{one_valuation}
 use Rattle.tsc_net.specs.Order.{fan_in, fan_ins, place_in, IsOrder}
+use Rattle.std.specs.List.{range_with_len}
+use Rattle.std.proofs.lemmas.List.FromFn.{take-map-range_with_len}
+use Rattle.tsc_net.specs.PlanView.{net_numbers}
+use Rattle.tsc_net.specs.declared.ids.NetId.{NetId}
 use Rattle.tsc_net.proofs.AcyclicLemmas.{fan_in-has}
 use Rattle.lane_rows.specs.Alive.{source_count, net_at}
 use Rattle.lane_rows.proofs.OrderFacts.{node_within, place_of_node, node_placed, node_at_place, order_sized, same_place}
 use Rattle.lane_sim.specs.Points.{source_bit}
+use Rattle.lane_sim.specs.Again.{is_at}
 use Rattle.lane_sim.specs.Along.{read_bits}
+use Rattle.lane_sim.specs.TwoPins.{IsTableOf, table_bit}
 use Rattle.lane_sim.proofs.SettleLemmas.{read_bits_are}
 use Rattle.fault_lanes.specs.Bench.{bits_in}
-use Rattle.fault_lanes.specs.Settling.{made_bit, HasSources, NodesSettle}
+use Rattle.fault_lanes.specs.Settling.{bits_at, made_bit, HasSources, NodesSettle}
 use Rattle.fault_lanes.proofs.CoverLemmas.{length-bits_in, bit_in}
+use Rattle.fault_lanes.proofs.HoldLemmas.{stem_away, pin_away}
 
 -- ---- the bits that pins read
 
@@ -57,12 +64,49 @@ module _ (f : StuckAt) (driver lane width : ℕ) (loaded held words reads : List
       (length-bits_in held width lane ∙ sym sized ∙ sym (length-read_bits f (λ net. source_bit words net lane) driver 0 reads))
       (λ i inside. pin_is i (omega (arith, length-bits_in held width lane)))
 
+  -- the rows of the first pins, in order
+  first_rows : (places : List NetId) → net_numbers places ≡ range_with_len 0 64 → width ≤ 64 → bits_at held (net_numbers (take width places)) lane ≡ bits_in held width lane
+  first_rows places are few =
+      ap (map (λ row. source_bit held row lane)) (sym (take-map (λ (net : NetId). net.number) width places) ∙ ap (take width) are)
+      ∙ sym (take-map (λ row. source_bit held row lane) width (range_with_len 0 64))
+      ∙ take-map-range_with_len (λ row. source_bit held row lane) 0 64 width few
+
   -- so what the cover gives on the rows of the pins is what the node makes of the nets
-  pub made : (N : Circuit) (j : ℕ) (cover : CoverTable) (x : Bool) → driver ≡ node_net N j → reads ≡ (node N j).reads → cover ≡ (node N j).cover → width ≡ cover.width
-      → x ≡ truth cover (bits_in held cover.width lane) → x ≡ made_bit N f (λ net. source_bit words net lane) j
-  made N j cover x is_driver is_reads is_cover wide is =
-      is ∙ ap (λ n. truth cover (bits_in held n lane)) (sym wide) ∙ ap (truth cover) pins_are
+  pub made : (N : Circuit) (j : ℕ) (cover : CoverTable) (places : List NetId) (x : Bool) → driver ≡ node_net N j → reads ≡ (node N j).reads → cover ≡ (node N j).cover
+      → net_numbers places ≡ range_with_len 0 64 → width ≤ 64
+      → x ≡ truth cover (bits_at held (net_numbers (take width places)) lane) → x ≡ made_bit N f (λ net. source_bit words net lane) j
+  made N j cover places x is_driver is_reads is_cover are few is =
+      is ∙ ap (truth cover) (first_rows places are few ∙ pins_are)
       ∙ (λ i. truth (is_cover i) (read_bits f (λ net. source_bit words net lane) (is_driver i) 0 (is_reads i)))
+
+-- ---- a node at which no lane has a fault
+
+free_reads : (f : StuckAt) (bits : ℕ → Bool) (driver pin : ℕ) (reads : List ℕ) → is_at f driver ≡ false → read_bits f bits driver pin reads ≡ map bits reads
+free_reads f bits driver pin [] away = refl
+free_reads f bits driver pin (net ∷ reads) away = ap₂ ◌∷◌ (pin_away f driver pin (bits net) away) (free_reads f bits driver (suc pin) reads away)
+
+-- what its cover gives on the nets that it reads is what it makes of them
+pub made_free : (N : Circuit) (f : StuckAt) (words : List ℕ) (lane j : ℕ) → is_at f (node_net N j) ≡ false
+    → truth (node N j).cover (bits_at words (node N j).reads lane) ≡ on_stem f (node_net N j) (made_bit N f (λ net. source_bit words net lane) j)
+made_free N f words lane j away =
+    sym (stem_away f (node_net N j) (made_bit N f (λ net. source_bit words net lane) j) away
+    ∙ ap (truth (node N j).cover) (free_reads f (λ net. source_bit words net lane) (node_net N j) 0 (node N j).reads away))
+
+-- the first two nets of a list that is no longer are all of it
+first_two : (bits : ℕ → Bool) (reads : List ℕ) (or : ℕ) → length reads ≤ 2
+    → take (length reads) (bits (slice_index_or reads 0 or) ∷ bits (slice_index_or reads 1 or) ∷ []) ≡ map bits reads
+first_two bits [] or few = refl
+first_two bits (a ∷ []) or few = refl
+first_two bits (a ∷ b ∷ []) or few = refl
+first_two bits (a ∷ b ∷ c ∷ rest) or few = absurd (omega (arith, few))
+
+-- so the number of its function gives that truth
+pub pair_is : (cover : CoverTable) (words reads : List ℕ) (lane table or : ℕ) → length reads ≡ cover.width → length reads ≤ 2 → IsTableOf cover cover.width table
+    → table_bit table (source_bit words (slice_index_or reads 0 or) lane) (source_bit words (slice_index_or reads 1 or) lane) ≡ truth cover (bits_at words reads lane)
+pair_is cover words reads lane table or wide few is =
+    is.gives (source_bit words (slice_index_or reads 0 or) lane) (source_bit words (slice_index_or reads 1 or) lane)
+    ∙ ap (λ n. truth cover (take n (source_bit words (slice_index_or reads 0 or) lane ∷ source_bit words (slice_index_or reads 1 or) lane ∷ []))) (sym wide)
+    ∙ ap (truth cover) (first_two (λ net. source_bit words net lane) reads or few)
 
 -- ---- node after node
 

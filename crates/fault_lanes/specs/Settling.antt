@@ -1,5 +1,5 @@
 -- What nodes make of the bits that nets have in a lane.
-use Rattle.std.specs.Prelude.{◌≡◌, ℕ, ◌<◌, Bool, List, length}
+use Rattle.std.specs.Prelude.{◌≡◌, ℕ, ◌<◌, Bool, List, length, map}
 use Rattle.tsc_cover.specs.Cover.{truth}
 use Rattle.fault_secure.specs.Circuit.{Circuit, node, node_net, bit}
 use Rattle.fault_secure.specs.StuckAt.{StuckAt, on_stem}
@@ -7,6 +7,10 @@ use Rattle.fault_secure.specs.Settle.{node_value}
 use Rattle.lane_rows.specs.Alive.{source_count}
 use Rattle.lane_sim.specs.Points.{source_bit}
 use Rattle.lane_sim.specs.Along.{read_bits}
+
+-- the bits in a lane of the rows of these numbers, sixteen words each
+abbrev pub bits_at : List ℕ → List ℕ → ℕ → List Bool
+bits_at words rows lane = map (λ row. source_bit words row lane) rows
 
 -- the truth of the cover of node j where nets have these bits and a fault may be at its pins
 abbrev pub made_bit : Circuit → StuckAt → (ℕ → Bool) → ℕ → Bool

@@ -10,6 +10,7 @@ ghost use Rattle.fault_lanes.specs.Batch.{batch_fault};
 ghost use Rattle.fault_lanes.specs.Bench.{fault_of, state_of, valuation_of, IsSameBatch, IsStep, SettlesEach, StartsEach};
 
 use crate::chains::Chains;
+use crate::ready::Ready;
 use crate::settling::settle_nets;
 use crate::states::{put_states, start_states, take_states};
 use std::alloc::{AllocError, Global};
@@ -21,6 +22,7 @@ use tsc_net::{Bits, Fault, NetId, Netlist};
 #[derive(Drop)]
 pub struct FaultLanes<'a> {
     net: &'a Netlist,
+    ready: Ready,
     chains: Chains,
     states: Vec<u64>,
     pins: Vec<u64>,
@@ -41,7 +43,7 @@ impl<'a> Model for FaultLanes<'a> {
 
 impl<'a> FaultLanes<'a> {
     /// A bench of the netlist, without a fault in any lane, at the first bits of its latches. It takes all the memory that it will
-    /// ever have: 128 bytes per net and latch, and 8 per net.
+    /// ever have: 128 bytes per net and latch, 8 per net, and one per node.
     ///
     /// # Errors
     ///
@@ -52,6 +54,7 @@ impl<'a> FaultLanes<'a> {
         ensures faults { IfOk result (λ bench. (lane : ℕ) → fault_of bench lane ≡ NoFault) }
         ensures first { IfOk result StartsEach }
     {
+        let ready = Ready::of(alloc, net)?;
         let chains = Chains::with_room(alloc, net.nets())?;
         let mut states = vec![in alloc; 0; net.latches() * 16]?;
         start_states(net, &mut states);
@@ -59,6 +62,7 @@ impl<'a> FaultLanes<'a> {
         let words = vec![in alloc; 0; net.nets() * 16]?;
         Ok(FaultLanes {
             net,
+            ready,
             chains,
             states,
             pins,
@@ -99,6 +103,7 @@ impl<'a> FaultLanes<'a> {
     {
         settle_nets(
             self.net,
+            &self.ready,
             &self.chains,
             input.as_slice(),
             &self.states,

@@ -1,7 +1,8 @@
 //! Which lanes have their faults at a net.
-ghost use Rattle.std.specs.Prelude.{◌≡◌, ◌≢◌, ℕ, ◌+◌, ◌*◌, ◌^◌, ◌<◌, ◌≤◌, ◌⊎◌, length, All, IfOk};
+ghost use Rattle.std.specs.Prelude.{◌≡◌, ◌≢◌, ℕ, ◌+◌, ◌*◌, ◌^◌, ◌<◌, ◌≤◌, ◌⊎◌, false, length, All, IfOk, IsTrue};
 ghost use Rattle.fault_secure.specs.StuckAt.{NoFault, on_stem, on_pin, fault_cell};
 ghost use Rattle.tsc_net.specs.Fault.{stuck_at};
+ghost use Rattle.lane_sim.specs.Again.{is_at};
 ghost use Rattle.lane_sim.specs.Points.{source_bit};
 ghost use Rattle.fault_lanes.specs.Batch.{batch_fault, lane_fault};
 ghost use Rattle.fault_lanes.specs.Chains.{AreChains, LeadThrough};
@@ -80,6 +81,15 @@ impl Chains {
         self.older[lane] = self.newest[net];
         self.newest[net] = lane;
         self.faults[lane] = Some(fault);
+    }
+
+    /// Whether no lane has a fault at a net. It looks at one number.
+    pub fn is_free(&self, net: usize) -> bool
+        requires chains { AreChains (length self.now.newest.items) self.now }
+        requires net { net < length self.now.newest.items }
+        ensures free { IsTrue result → (lane : ℕ) → lane < 1024 → is_at (lane_fault self.now.faults.items lane) net ≡ false }
+    {
+        self.newest[net] == 0
     }
 
     /// Holds a net in each lane whose fault is its stem.

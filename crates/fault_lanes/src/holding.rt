@@ -1,23 +1,11 @@
-//! Lanes that are written: all of a row, or the bit of one lane, where a fault holds it.
+//! The bit of one lane, where a fault holds it.
 ghost use Rattle.std.specs.Prelude.{◌≡◌, ◌≢◌, ℕ, ◌+◌, ◌*◌, ◌<◌, ◌≤◌, ◌⊎◌, length};
 ghost use Rattle.fault_secure.specs.StuckAt.{on_stem, on_pin};
 ghost use Rattle.tsc_net.specs.Fault.{stuck_at_or_none};
-ghost use Rattle.lane_sim.specs.Lanes.{lane_bit};
 ghost use Rattle.lane_sim.specs.Points.{source_bit};
 
 use lane_sim::with_bit;
-use std::simd::Simd;
 use tsc_net::Fault;
-
-/// Writes the lanes of a row; there are sixteen words per row.
-pub(crate) fn store(words: &mut [u64], row: usize, lanes: Simd<u64, 16>)
-    requires room { row * 16 + 16 ≤ length words.old }
-    ensures stored { (lane : ℕ) → lane < 1024 → source_bit words.new row lane ≡ lane_bit lanes lane }
-    ensures others { (other lane : ℕ) → lane < 1024 → other ≢ row → source_bit words.new other lane ≡ source_bit words.old other lane }
-    ensures sized { length words.new ≡ length words.old }
-{
-    lanes.copy_to_slice(&mut words[row * 16..]);
-}
 
 /// Holds the bit of a row in a lane.
 fn put_bit(words: &mut [u64], row: usize, lane: usize, value: bool)

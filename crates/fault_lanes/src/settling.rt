@@ -1,6 +1,7 @@
 //! The nets of a netlist, settled in 1,024 lanes at once.
 ghost use Rattle.std.specs.Prelude.{◌≡◌, ◌≢◌, ℕ, ◌+◌, ◌*◌, ◌<◌, ◌≤◌, Bool, List, length, slice_index, All};
-ghost use Rattle.fault_secure.specs.Circuit.{nets, node_net, latch_net, bit};
+ghost use Rattle.tsc_cover.specs.Cover.{truth};
+ghost use Rattle.fault_secure.specs.Circuit.{nets, node, node_net, latch_net, bit};
 ghost use Rattle.fault_secure.specs.StuckAt.{on_stem};
 ghost use Rattle.fault_secure.specs.Settle.{Acyclic, Settles};
 ghost use Rattle.tsc_net.specs.PlanView.{net_numbers};
@@ -10,24 +11,28 @@ ghost use Rattle.lane_sim.specs.Points.{source_bit};
 ghost use Rattle.fault_lanes.specs.Batch.{lane_fault};
 ghost use Rattle.fault_lanes.specs.Bench.{bits_in};
 ghost use Rattle.fault_lanes.specs.Chains.{AreChains};
-ghost use Rattle.fault_lanes.specs.Settling.{made_bit, HasSources, NodesSettle};
+ghost use Rattle.fault_lanes.specs.Ready.{IsReady};
+ghost use Rattle.fault_lanes.specs.Settling.{bits_at, made_bit, HasSources, NodesSettle};
 
 use crate::chains::Chains;
 use crate::covers::cover_lanes;
-use crate::holding::store;
-use lane_sim::{constant, load};
+use crate::pairs::{row_or, settle_pair};
+use crate::ready::Ready;
+use lane_sim::{constant, load, store};
 use std::simd::Simd;
 use tsc_net::{NetId, Netlist};
 
 /// Settles all nets, with these bits of the inputs in each lane and the latches' bits of each lane.
 pub(crate) fn settle_nets(
     net: &Netlist,
+    ready: &Ready,
     chains: &Chains,
     input: &[bool],
     states: &[u64],
     pins: &mut [u64],
     words: &mut [u64],
 )
+    requires ready { IsReady net.now.circuit ready.now }
     requires chains { AreChains (nets net.now.circuit) chains.now }
     requires input { length input.now ≡ net.now.circuit.inputs }
     requires states { length states.now ≡ length net.now.circuit.latches * 16 }
@@ -41,7 +46,7 @@ pub(crate) fn settle_nets(
     let _order = net.order();
     settle_inputs(chains, input, words);
     settle_latches(chains, input.len(), net.latches(), states, words);
-    settle_nodes(net, chains, pins, words);
+    settle_nodes(net, ready, chains, pins, words);
 }
 
 /// Settles the inputs.
@@ -71,7 +76,14 @@ fn settle_latches(chains: &Chains, first: usize, latches: usize, states: &[u64],
 }
 
 /// Settles the nets of the nodes, one after another along the evaluation order.
-fn settle_nodes(net: &Netlist, chains: &Chains, pins: &mut [u64], words: &mut [u64])
+fn settle_nodes(
+    net: &Netlist,
+    ready: &Ready,
+    chains: &Chains,
+    pins: &mut [u64],
+    words: &mut [u64],
+)
+    requires ready { IsReady net.now.circuit ready.now }
     requires chains { AreChains (nets net.now.circuit) chains.now }
     requires pins { length pins.old ≡ 1024 }
     requires words { length words.old ≡ nets net.now.circuit * 16 }
@@ -82,13 +94,21 @@ fn settle_nodes(net: &Netlist, chains: &Chains, pins: &mut [u64], words: &mut [u
     // That a netlist is closed is known from here on.
     let _nets = net.nets();
     for place in net.order() {
-        settle_node(net, *place, chains, pins, words);
+        settle_node(net, *place, ready, chains, pins, words);
     }
 }
 
 /// Settles the net of a node.
-fn settle_node(net: &Netlist, place: usize, chains: &Chains, pins: &mut [u64], words: &mut [u64])
+fn settle_node(
+    net: &Netlist,
+    place: usize,
+    ready: &Ready,
+    chains: &Chains,
+    pins: &mut [u64],
+    words: &mut [u64],
+)
     requires place { place < length net.now.circuit.nodes }
+    requires ready { IsReady net.now.circuit ready.now }
     requires chains { AreChains (nets net.now.circuit) chains.now }
     requires pins { length pins.old ≡ 1024 }
     requires words { length words.old ≡ nets net.now.circuit * 16 }
@@ -96,19 +116,48 @@ fn settle_node(net: &Netlist, place: usize, chains: &Chains, pins: &mut [u64], w
         ≡ on_stem (lane_fault chains.now.faults.items lane) (node_net net.now.circuit place) (made_bit net.now.circuit (lane_fault chains.now.faults.items lane) (λ other. source_bit words.old other lane) place) }
     ensures others { (other lane : ℕ) → lane < 1024 → other ≢ node_net net.now.circuit place → source_bit words.new other lane ≡ source_bit words.old other lane }
 {
-    let lanes = node_lanes(net, place, chains, pins, words);
-    settle_net(chains, words, net.node_net(place).number as usize, lanes);
+    let driver = net.node_net(place).number as usize;
+    if chains.is_free(driver) {
+        settle_free(net, place, ready, words);
+    } else {
+        let lanes = node_lanes(net, place, ready, chains, pins, words);
+        settle_net(chains, words, driver, lanes);
+    }
+}
+
+/// Settles the net of a node at which no lane has a fault: its pins are read where their nets are.
+fn settle_free(net: &Netlist, place: usize, ready: &Ready, words: &mut [u64])
+    requires place { place < length net.now.circuit.nodes }
+    requires ready { IsReady net.now.circuit ready.now }
+    requires words { length words.old ≡ nets net.now.circuit * 16 }
+    ensures here { (lane : ℕ) → lane < 1024 → source_bit words.new (node_net net.now.circuit place) lane ≡ truth (node net.now.circuit place).cover (bits_at words.old (node net.now.circuit place).reads lane) }
+    ensures others { (other lane : ℕ) → lane < 1024 → other ≢ node_net net.now.circuit place → source_bit words.new other lane ≡ source_bit words.old other lane }
+{
+    // What the netlist keeps is known from here on.
+    let _nets = net.nets();
+    let to = net.node_net(place).number as usize;
+    let reads = net.node_reads(place);
+    if reads.len() <= 2 {
+        let first = row_or(reads, 0, to);
+        let second = row_or(reads, 1, to);
+        settle_pair(ready.tables[place], first, second, to, words);
+    } else {
+        let lanes = cover_lanes(net.node_cover(place), reads, words);
+        store(words, to, lanes);
+    }
 }
 
 /// What the cover of a node makes of the lanes of the nets that it reads, where its pins are held by the faults there.
 fn node_lanes(
     net: &Netlist,
     place: usize,
+    ready: &Ready,
     chains: &Chains,
     pins: &mut [u64],
     words: &[u64],
 ) -> Simd<u64, 16>
     requires place { place < length net.now.circuit.nodes }
+    requires ready { IsReady net.now.circuit ready.now }
     requires chains { AreChains (nets net.now.circuit) chains.now }
     requires pins { length pins.old ≡ 1024 }
     requires words { length words.now ≡ nets net.now.circuit * 16 }
@@ -120,7 +169,7 @@ fn node_lanes(
     let width = cover.width();
     load_pins(net.node_reads(place), words, pins);
     chains.hold_pins(pins, 0, width, net.node_net(place).number as usize);
-    cover_lanes(cover, pins)
+    cover_lanes(cover, &ready.places[..width], pins)
 }
 
 /// Copies the lanes of the nets that a node reads to the rows of its pins.

@@ -9,8 +9,7 @@ ghost use Rattle.fault_lanes.specs.Bench.{bits_in};
 ghost use Rattle.fault_lanes.specs.Chains.{AreChains};
 
 use crate::chains::Chains;
-use crate::holding::store;
-use lane_sim::{constant, load};
+use lane_sim::{constant, load, store};
 use tsc_net::Netlist;
 
 /// Gives each latch its first bit, in each lane.
