@@ -1,5 +1,5 @@
 -- Clauses in a pool: one that is added, one that is found, and one that is removed.
-use Rattle.std.proofs.Common.{◌≡◌, ℕ, zero, suc, ◌+◌, ◌<◌, ◌≤◌, Bool, true, false, List, [], ◌∷◌, ◌++◌, length, take, drop, if◌then◌else◌, slice_index_or, slice_set, Option, Some, None, is_some, OnErr, Result, Ok, Err, ◌-◌, refl, sym, ap, ◌∙◌, subst, arith, length-append, length-drop}
+use Rattle.std.proofs.Common.{◌≡◌, ℕ, zero, suc, ◌+◌, ◌<◌, ◌≤◌, Bool, true, false, List, [], ◌∷◌, ◌++◌, length, take, drop, if◌then◌else◌, slice_index_or, slice_set, Option, Some, None, is_some, OnErr, Result, Ok, Err, ◌-◌, min, refl, sym, ap, ◌∙◌, subst, arith, length-append, length-drop}
 use Rattle.std.proofs.lemmas.Bool.{eq-eqb, ne_eqb, cases_lt}
 use Rattle.std.proofs.lemmas.List.{take-append-le, drop-append-le, length-set, take_all, take_rest}
 use Rattle.std.proofs.Math.ListN.{get_or-append}
@@ -305,3 +305,39 @@ on_error (Err e) P p = p
 
 -- what is found, and what is left, by what place was found
 pub ruleset held_rules = (clause_at-present, clause_at-absent, clauses_in-removed, without-absent, held_removed)
+
+-- numbers rise by one at least from place to place
+apart : (es : List Entry) → IsRising es → (j gap : ℕ) → j + gap < length es → (entry es j).number + gap ≤ (entry es (j + gap)).number
+apart es rising j zero inside = (let same : j + 0 ≡ j = omega arith in subst (λ k. (entry es j).number + 0 ≤ (entry es k).number) (sym same) (omega arith))
+apart es rising j (suc gap) inside =
+    let rest = apart es rising j gap (omega arith) in
+    let next = rising (j + gap) (j + suc gap) (omega arith) inside in
+    omega arith
+
+min_le_left : (a b : ℕ) → min a b ≤ a
+min_le_left a b = omega arith
+
+-- so what is before the lower bound is below the number, and what is from the upper one on isn't
+pub before_low : (es : List Entry) → IsRising es → (number gap start high low k : ℕ) → gap ≡ (entry es (length es - 1)).number - number → start ≡ (length es - 1) - gap → low ≡ min start high
+    → k < low → (entry es k).number < number
+before_low es rising number gap start high low k is begins least below =
+    let some : k < length es - 1 = omega (arith, is, begins, least, below, min_le_left start high) in
+    let end : k + ((length es - 1) - k) ≡ length es - 1 = omega (arith, some) in
+    let far = apart es rising k ((length es - 1) - k) (omega (arith, end, some)) in
+    let there = subst (λ p. (entry es k).number + ((length es - 1) - k) ≤ (entry es p).number) end far in
+    omega (arith, there, is, begins, least, below, some, min_le_left start high)
+
+pub from_high : (es : List Entry) → IsRising es → (number gap high k : ℕ) → gap ≡ number - (entry es 0).number → high ≡ min gap (length es) → high ≤ k → k < length es → number ≤ (entry es k).number
+from_high es rising number gap high k is least from inside =
+    let same : 0 + k ≡ k = omega arith in
+    let far = subst (λ p. (entry es 0).number + k ≤ (entry es p).number) same (apart es rising 0 k (omega (arith, inside))) in
+    ⊎_elim
+    (λ less. let whole = min_is_left gap (length es) less in omega (arith, far, is, least, from, whole))
+    (λ past. let whole = min_is_right gap (length es) past in omega (arith, least, from, inside, whole))
+    (cases_lt gap (length es))
+  where
+    min_is_left : (a b : ℕ) → a < b → min a b ≡ a
+    min_is_left a b less = omega (arith, less)
+
+    min_is_right : (a b : ℕ) → b ≤ a → min a b ≡ b
+    min_is_right a b past = omega (arith, past)

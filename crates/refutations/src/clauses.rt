@@ -189,6 +189,35 @@ fn place_of(entries: &[Entry], number: u32) -> Option<usize>
     }
 }
 
+/// Where a place is looked for: not below `low`, nor above `high`.
+#[derive(Clone, Copy)]
+struct Bounds {
+    low: usize,
+    high: usize,
+}
+
+/// Where the first place is whose number isn't below this one. Numbers rise by one at least from place to place: so where none is
+/// missing, one place is left, and else as many more as numbers are missing.
+fn search_bounds(entries: &[Entry], number: u32) -> Bounds
+    requires rising { IsRising entries.now }
+    ensures order { result.low ≤ result.high }
+    ensures inside { result.high ≤ length entries.now }
+    ensures before { (k : ℕ) → k < result.low → (nth entries.now k).number < number }
+    ensures from { (k : ℕ) → result.high ≤ k → k < length entries.now → number ≤ (nth entries.now k).number }
+{
+    if entries.is_empty() {
+        return Bounds { low: 0, high: 0 };
+    }
+    let end = entries.len() - 1;
+    let first = entries[0].number;
+    let last = entries[end].number;
+    let high = (number.saturating_sub(first) as usize).min(entries.len());
+    let low = end
+        .saturating_sub(last.saturating_sub(number) as usize)
+        .min(high);
+    Bounds { low, high }
+}
+
 /// The first place whose number isn't below this one, or the number of entries.
 fn first_from(entries: &[Entry], number: u32) -> usize
     requires rising { IsRising entries.now }
@@ -196,8 +225,7 @@ fn first_from(entries: &[Entry], number: u32) -> usize
     ensures before { (k : ℕ) → k < result → (nth entries.now k).number < number }
     ensures from { (k : ℕ) → result ≤ k → k < length entries.now → number ≤ (nth entries.now k).number }
 {
-    let mut low = 0;
-    let mut high = entries.len();
+    let Bounds { mut low, mut high } = search_bounds(entries, number);
     while low < high {
         let middle = low + (high - low) / 2;
         if entries[middle].number < number {
