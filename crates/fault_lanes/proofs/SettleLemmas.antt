@@ -3,7 +3,7 @@ use Rattle.std.proofs.Common.{◌≡◌, ◌≢◌, ℕ, zero, suc, ◌+◌, ◌
 use Rattle.std.specs.Prelude.{slice_index, slice_index_or}
 use Rattle.std.proofs.Math.Logic.{⊎_elim}
 use Rattle.std.proofs.lemmas.Bool.{cases_lt}
-use Rattle.std.proofs.lemmas.List.{ext_get_or, get_or-map}
+use Rattle.std.proofs.lemmas.List.{ext_get_or, get_or-map, get_or_default, get_or-take, length-map, length-take-le, take-map}
 use Rattle.tsc_cover.specs.Cover.{CoverTable, truth}
 use Rattle.fault_secure.specs.Circuit.{Circuit, NodeOf, no_node, node, node_net, latch_net, pin_net, nets, bit}
 use Rattle.fault_secure.specs.Closed.{IsClosed}
@@ -13,7 +13,7 @@ use Rattle.fault_secure.specs.OneRun.{HasOneValuation}
 use Rattle.fault_secure.proofs.OneRun.{one_valuation}
 use Rattle.tsc_net.specs.Order.{fan_in, fan_ins, place_in, IsOrder}
 use Rattle.std.specs.List.{range_with_len}
-use Rattle.std.proofs.lemmas.List.FromFn.{take-map-range_with_len}
+use Rattle.std.proofs.lemmas.List.FromFn.{get_or-range_with_len, length-range_with_len, take-map-range_with_len}
 use Rattle.tsc_net.specs.PlanView.{net_numbers}
 use Rattle.tsc_net.specs.declared.ids.NetId.{NetId}
 use Rattle.tsc_net.proofs.AcyclicLemmas.{fan_in-has}
@@ -25,6 +25,7 @@ use Rattle.lane_sim.specs.Along.{read_bits}
 use Rattle.lane_sim.specs.TwoPins.{IsTableOf, table_bit}
 use Rattle.lane_sim.proofs.SettleLemmas.{read_bits_are}
 use Rattle.fault_lanes.specs.Bench.{bits_in}
+use Rattle.fault_lanes.specs.Ready.{AreTables}
 use Rattle.fault_lanes.specs.Settling.{bits_at, made_bit, HasSources, NodesSettle}
 use Rattle.fault_lanes.proofs.CoverLemmas.{length-bits_in, bit_in}
 use Rattle.fault_lanes.proofs.HoldLemmas.{stem_away, pin_away}
@@ -79,6 +80,18 @@ module _ (f : StuckAt) (driver lane width : ℕ) (loaded held words reads : List
       is ∙ ap (truth cover) (first_rows places are few ∙ pins_are)
       ∙ (λ i. truth (is_cover i) (read_bits f (λ net. source_bit words net lane) (is_driver i) 0 (is_reads i)))
 
+-- the rows of the first pins are among 64
+pub place_within : (places : List NetId) (width k : ℕ) (d : NetId) → net_numbers places ≡ range_with_len 0 64 → width ≤ 64 → k < length (take width places) → (get_or (take width places) k d).number < 64
+place_within places width k d are few inside =
+    let many : length places ≡ 64 = sym (length-map places (λ (net : NetId). net.number)) ∙ ap length are ∙ length-range_with_len 0 64 in
+    let taken : length (take width places) ≡ width = length-take-le width places (omega (arith, many, few)) in
+    let below : k < width = omega (arith, taken, inside) in
+    let numbered : (get_or (take width places) k d).number ≡ k =
+    ap (λ (net : NetId). net.number) (get_or-take width places k d below)
+    ∙ sym (get_or-map (λ (net : NetId). net.number) places k d d.number (omega (arith, many, below, few)))
+    ∙ ap (λ l. get_or l k d.number) are ∙ get_or-range_with_len 0 64 k d.number (omega (arith, below, few)) ∙ omega arith in
+    omega (arith, numbered, below, few)
+
 -- ---- a node at which no lane has a fault
 
 free_reads : (f : StuckAt) (bits : ℕ → Bool) (driver pin : ℕ) (reads : List ℕ) → is_at f driver ≡ false → read_bits f bits driver pin reads ≡ map bits reads
@@ -107,6 +120,23 @@ pair_is cover words reads lane table or wide few is =
     is.gives (source_bit words (slice_index_or reads 0 or) lane) (source_bit words (slice_index_or reads 1 or) lane)
     ∙ ap (λ n. truth cover (take n (source_bit words (slice_index_or reads 0 or) lane ∷ source_bit words (slice_index_or reads 1 or) lane ∷ []))) (sym wide)
     ∙ ap (truth cover) (first_two (λ net. source_bit words net lane) reads or few)
+
+-- so a node of at most two pins is settled by the number of its function
+pub free_pair : (N : Circuit) (j table first second to lane : ℕ) (old new tables : List ℕ) (reads : List NetId) → IsClosed N → j < length N.nodes → net_numbers reads ≡ (node N j).reads → length reads ≤ 2
+    → AreTables N tables → table ≡ slice_index_or tables j table → first ≡ slice_index_or (net_numbers reads) 0 to → second ≡ slice_index_or (net_numbers reads) 1 to → to ≡ node_net N j
+    → source_bit new to lane ≡ table_bit table (source_bit old first lane) (source_bit old second lane)
+    → source_bit new (node_net N j) lane ≡ truth (node N j).cover (bits_at old (node N j).reads lane)
+free_pair N j table first second to lane old new tables reads closed within same few fits is_table is_first is_second is_to settled =
+    let many : length (node N j).reads ≡ length reads = sym (ap length same) ∙ length-map reads (λ (net : NetId). net.number) in
+    let wide : (node N j).cover.width ≡ length (node N j).reads = closed.widths j no_node within in
+    let found : slice_index tables j ≡ table = sym (is_table ∙ get_or_default tables j table 0 (omega (arith, within, fits.sized))) in
+    let is : IsTableOf (node N j).cover (node N j).cover.width table =
+    subst (λ t. IsTableOf (node N j).cover (node N j).cover.width t) found (fits.each j within (omega (arith, many, wide, few))) in
+    let firstly : first ≡ slice_index_or (node N j).reads 0 to = is_first ∙ ap (λ l. slice_index_or l 0 to) same in
+    let secondly : second ≡ slice_index_or (node N j).reads 1 to = is_second ∙ ap (λ l. slice_index_or l 1 to) same in
+    ap (λ n. source_bit new n lane) (sym is_to) ∙ settled
+    ∙ ap₂ (λ a b. table_bit table (source_bit old a lane) (source_bit old b lane)) firstly secondly
+    ∙ pair_is (node N j).cover old (node N j).reads lane table to (sym wide) (omega (arith, many, few)) is
 
 -- ---- node after node
 

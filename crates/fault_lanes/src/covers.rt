@@ -16,10 +16,11 @@ use tsc_net::NetId;
 /// The lanes in which a cover is true, where its pins read these rows.
 pub(crate) fn cover_lanes(cover: &Cover, reads: &[NetId], words: &[u64]) -> Simd<u64, 16>
     requires wide { length reads.now ≡ cover.now.width }
-    requires few { length reads.now ≤ 64 }
     requires within { All (λ row. row.number * 16 + 16 ≤ length words.now) reads.now }
     ensures lanes { HasLanes 16 result (λ lane. truth cover.now (bits_at words.now (net_numbers reads.now) lane)) }
 {
+    // That it has few pins is known from here on.
+    let _width = cover.width();
     signed(cover.on(), rows_lanes(cover.rows(), reads, words))
 }
 

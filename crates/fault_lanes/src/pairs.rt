@@ -28,7 +28,7 @@ pub(crate) fn settle_pair(table: u8, first: usize, second: usize, to: usize, wor
 
 /// A function of two bits in each lane.
 fn pair_lanes(table: u8, a: Simd<u64, 2>, b: Simd<u64, 2>) -> Simd<u64, 2>
-    ensures lanes { HasLanes 2 result (λ p. table_bit table (lane_bit a.entry p) (lane_bit b.entry p)) }
+    ensures lanes { HasLanes 2 result (λ p. table_bit table (lane_bit a p) (lane_bit b p)) }
 {
     let table = u64::from(table);
     let without = differ(

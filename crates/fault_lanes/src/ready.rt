@@ -52,7 +52,11 @@ fn tables_of(alloc: Global, net: &Netlist) -> Result<Vec<u8>, AllocError>
 fn table_or_none(cover: &Cover) -> u8
     ensures table { cover.now.width ≤ 2 → IsTableOf cover.now cover.now.width result }
 {
-    if cover.width() <= 2 { table_of(cover) } else { 0 }
+    if cover.width() <= 2 {
+        table_of(cover)
+    } else {
+        0
+    }
 }
 
 /// The numbers from 0 to 63.

@@ -76,13 +76,7 @@ fn settle_latches(chains: &Chains, first: usize, latches: usize, states: &[u64],
 }
 
 /// Settles the nets of the nodes, one after another along the evaluation order.
-fn settle_nodes(
-    net: &Netlist,
-    ready: &Ready,
-    chains: &Chains,
-    pins: &mut [u64],
-    words: &mut [u64],
-)
+fn settle_nodes(net: &Netlist, ready: &Ready, chains: &Chains, pins: &mut [u64], words: &mut [u64])
     requires ready { IsReady net.now.circuit ready.now }
     requires chains { AreChains (nets net.now.circuit) chains.now }
     requires pins { length pins.old ≡ 1024 }
@@ -180,7 +174,7 @@ fn load_pins(reads: &[NetId], words: &[u64], pins: &mut [u64])
     ensures loaded { (pin lane : ℕ) → pin < length reads.now → lane < 1024 → source_bit pins.new pin lane ≡ source_bit words.now (slice_index (net_numbers reads.now) pin) lane }
 {
     for (pin, net) in reads.iter().enumerate() {
-        store(pins, pin, load(words, net.number as usize));
+        store::<16>(pins, pin, load(words, net.number as usize));
     }
 }
 

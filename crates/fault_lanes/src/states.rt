@@ -18,7 +18,7 @@ pub(crate) fn start_states(net: &Netlist, states: &mut [u64])
     ensures first { (lane : ℕ) → lane < 1024 → bits_in states.new (length net.now.circuit.latches) lane ≡ init_state net.now.circuit }
 {
     for latch in 0..net.latches() {
-        store(states, latch, constant(net.latch(latch).init));
+        store::<16>(states, latch, constant(net.latch(latch).init));
     }
 }
 
@@ -28,7 +28,7 @@ pub(crate) fn put_states(state: &[bool], states: &mut [u64])
     ensures state { (lane : ℕ) → lane < 1024 → bits_in states.new (length state.now) lane ≡ state.now }
 {
     for (latch, value) in state.iter().enumerate() {
-        store(states, latch, constant(*value));
+        store::<16>(states, latch, constant(*value));
     }
 }
 
@@ -60,6 +60,6 @@ fn take_state(net: &Netlist, place: usize, chains: &Chains, words: &[u64], state
     // That latches read nets is known from here on.
     let _nets = net.nets();
     let view = net.latch(place);
-    store(states, place, load(words, view.reads.number as usize));
+    store::<16>(states, place, load(words, view.reads.number as usize));
     chains.hold_pins(states, place, 1, view.out.number as usize);
 }

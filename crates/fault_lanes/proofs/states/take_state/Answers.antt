@@ -12,6 +12,6 @@ returns-clause-here c = λ lane inside.
     let out = c.latch-view.result.out.number in
     let at : place + 0 ≡ place = omega arith in
     ap (λ row. source_bit c.hold_pins.new.words row lane) (sym at) ∙ c.hold_pins.ensures.here 0 lane (lit< tt) inside
-    ∙ ap (λ row. on_pin f out 0 (source_bit c.store.new.words row lane)) at
+    ∙ ap (λ row. on_pin f out 0 (source_bit c.store.new.block row lane)) at
     ∙ ap (on_pin f out 0) (c.store.ensures.stored lane inside ∙ c.load.ensures.lanes.lanes lane inside ∙ ap (λ net. source_bit c.args.words.now net lane) c.latch-view.ensures.reads)
     ∙ ap (λ net. on_pin f net 0 (source_bit c.args.words.now (latch c.args.net.now.circuit place).reads lane)) c.latch-view.ensures.out)
