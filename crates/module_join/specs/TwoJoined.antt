@@ -1,5 +1,5 @@
 -- A small joint, worked out by hand: a netlist of one AND gate under parity, and one that shows its input, under one pair of rails.
-use Rattle.std.specs.Prelude.{◌≡◌, [], ◌∷◌, codes}
+use Rattle.std.specs.Prelude.{◌≡◌, [], ◌∷◌, codes, None}
 use Rattle.tsc_cover.specs.Gates.{buf_cover, not_cover, and_cover, or_cover}
 use Rattle.fault_secure.specs.declared.code.Code.TheVariants.{Parity}
 use Rattle.fault_secure.specs.Circuit.{Circuit, gate}
@@ -15,6 +15,7 @@ first_part = record {
     model = codes "and";
   };
   plan = small_plan;
+  clock = None;
 }
 
 -- the input a is the output; its check is the negated input, and each rail a buffer
@@ -42,6 +43,7 @@ second_part = record {
     rail1 = 2;
     rail2 = 3;
   };
+  clock = None;
 }
 
 -- a and b are the nets 0 and 1; those of the first part 2 to 6, of the second 7 to 9, of the tree 10 to 17. The output a is the input

@@ -4,9 +4,10 @@ ghost use Rattle.tsc_net.specs.Names.{text_at};
 ghost use Rattle.module_join.specs.JointNet.{input_names, with_texts, joint_inputs as joint_inputs_of};
 ghost use Rattle.module_join.specs.JoinParts.{parts_as};
 
+use crate::part::Part;
 use std::alloc::{AllocError, Global};
 use tsc_io::TextKey;
-use tsc_net::{NameTable, NetId, Netlist, PlannedNetlist};
+use tsc_net::{NameTable, NetId, Netlist};
 
 /// The names of the inputs of parts, each once, in the order in which they were first seen: the inputs of the joint. The table is
 /// under the key of the text that the names are of.
@@ -14,11 +15,7 @@ use tsc_net::{NameTable, NetId, Netlist, PlannedNetlist};
 /// # Errors
 ///
 /// Want of memory.
-pub fn joint_inputs(
-    alloc: Global,
-    key: TextKey,
-    parts: &[PlannedNetlist],
-) -> Result<NameTable, AllocError>
+pub fn joint_inputs(alloc: Global, key: TextKey, parts: &[Part]) -> Result<NameTable, AllocError>
     ensures names { IfOk result (λ names. names ≡ joint_inputs_of (parts_as parts.now)) }
 {
     let mut names = NameTable::new(alloc, key);

@@ -7,10 +7,11 @@ ghost use Rattle.module_join.specs.JoinParts.{parts_as};
 ghost use Rattle.module_join.specs.JoinLimits.{joint_nodes, has_too_many_inputs, has_too_many_nodes, RefusesJoin};
 
 use crate::inputs::joint_inputs;
+use crate::part::Part;
 use std::alloc::{AllocError, Global};
 use thiserror::Error;
 use tsc_io::TextKey;
-use tsc_net::{NameTable, PlannedNetlist};
+use tsc_net::NameTable;
 
 /// The most inputs that a joint netlist has.
 const MOST_INPUTS: usize = 1_024;
@@ -37,7 +38,7 @@ pub enum JoinError {
 /// # Errors
 ///
 /// More than 1,024 names; else more than 1,048,576 nodes, those of the tree over the parts among them; or want of memory.
-pub fn fits(alloc: Global, key: TextKey, parts: &[PlannedNetlist]) -> Result<NameTable, JoinError>
+pub fn fits(alloc: Global, key: TextKey, parts: &[Part]) -> Result<NameTable, JoinError>
     ensures names { IfOk result (λ names. names ≡ joint_inputs_of (parts_as parts.now)) }
     ensures few_inputs { OnOk result (IsFalse (has_too_many_inputs (parts_as parts.now))) }
     ensures few_nodes { OnOk result (IsFalse (has_too_many_nodes (parts_as parts.now))) }
@@ -53,7 +54,7 @@ pub fn fits(alloc: Global, key: TextKey, parts: &[PlannedNetlist]) -> Result<Nam
 }
 
 /// Tries the limits of the joint of parts that has so many inputs.
-fn limits(inputs: usize, parts: &[PlannedNetlist]) -> Result<(), JoinError>
+fn limits(inputs: usize, parts: &[Part]) -> Result<(), JoinError>
     requires counted { inputs ≡ length (joint_inputs_of (parts_as parts.now)) }
     ensures few_inputs { OnOk result (IsFalse (has_too_many_inputs (parts_as parts.now))) }
     ensures few_nodes { OnOk result (IsFalse (has_too_many_nodes (parts_as parts.now))) }
@@ -70,14 +71,14 @@ fn limits(inputs: usize, parts: &[PlannedNetlist]) -> Result<(), JoinError>
 }
 
 /// How many nodes the joint of parts has; the greatest number, where it is above it.
-fn joint_nodes(parts: &[PlannedNetlist]) -> usize
+fn joint_nodes(parts: &[Part]) -> usize
     ensures count { result ≡ min (joint_nodes (parts_as parts.now)) (2 ^ 64 - 1) }
 {
     part_nodes(parts).saturating_add(tree_gates(parts.len()))
 }
 
 /// How many nodes the parts have together; the greatest number, where it is above it.
-fn part_nodes(parts: &[PlannedNetlist]) -> usize
+fn part_nodes(parts: &[Part]) -> usize
     ensures count { result ≡ min (sum_by (λ part. length part.net.circuit.nodes) parts.now) (2 ^ 64 - 1) }
 {
     let mut total: usize = 0;

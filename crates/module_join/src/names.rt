@@ -6,16 +6,16 @@ use std::alloc::{AllocError, Global};
 use tsc_io::Bytes;
 use tsc_net::NameTable;
 
-/// What the names of all nets except the inputs begin with: `p`, the least number with which no input begins so, and `_`.
+/// What the names of all nets except the inputs begin with: `p`, the least number with which no name that is taken begins so, and `_`.
 ///
 /// # Errors
 ///
 /// Want of memory.
-pub fn joint_prefix(alloc: Global, inputs: &NameTable) -> Result<Bytes, AllocError>
-    requires room { length inputs.now < 2 ^ 32 }
-    ensures prefix { IfOk result (λ prefix. prefix ≡ joint_prefix inputs.now) }
+pub fn joint_prefix(alloc: Global, taken: &NameTable) -> Result<Bytes, AllocError>
+    requires room { length taken.now < 2 ^ 32 }
+    ensures prefix { IfOk result (λ prefix. prefix ≡ joint_prefix taken.now) }
 {
-    let number = inputs.free_number(alloc, b'p')?;
+    let number = taken.free_number(alloc, b'p')?;
     let mut prefix = Bytes::from_slice(alloc, b"p")?;
     let tail = format!(in alloc; "{number}_")?;
     prefix.append(tail.as_bytes())?;
