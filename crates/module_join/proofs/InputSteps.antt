@@ -3,8 +3,8 @@ use Rattle.std.proofs.Common.{◌≡◌, ℕ, ◌+◌, ◌<◌, ◌≤◌, List,
 use Rattle.std.proofs.lemmas.List.{length-take-le, get_or-take}
 use Rattle.tsc_net.specs.Names.{with_text, text_at}
 use Rattle.tsc_net.specs.NetlistOf.{NetlistOf, IsBuilt}
-use Rattle.tsc_net.specs.declared.planned.PlannedNetlist.{PlannedNetlist}
 use Rattle.code_checkers.proofs.Loops.{drop_at}
+use Rattle.module_join.specs.declared.part.Part.{Part}
 use Rattle.module_join.specs.JointNet.{input_names, with_texts, inputs_from}
 use Rattle.module_join.specs.JoinParts.{parts_as}
 
@@ -18,6 +18,6 @@ input_step net seen text i h lt e =
     ap (with_texts seen) (sym (drop_at (input_names net) i [] text within (e ∙ sym (get_or-take n net.names i [] lt))))
 
 -- and so was a part
-pub part_step : (parts : List PlannedNetlist) (seen : List (List ℕ)) (p : PlannedNetlist) (i : ℕ) → i < length parts → p ≡ get_or parts i p
+pub part_step : (parts : List Part) (seen : List (List ℕ)) (p : Part) (i : ℕ) → i < length parts → p ≡ get_or parts i p
     → inputs_from (with_texts seen (input_names p.net)) (parts_as (drop (i + 1) parts)) ≡ inputs_from seen (parts_as (drop i parts))
-part_step parts seen p i lt e = ap (λ (ps : List PlannedNetlist). inputs_from seen (parts_as ps)) (sym (drop_at parts i p p lt e))
+part_step parts seen p i lt e = ap (λ (ps : List Part). inputs_from seen (parts_as ps)) (sym (drop_at parts i p p lt e))

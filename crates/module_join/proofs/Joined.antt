@@ -21,9 +21,11 @@ use Rattle.joint_laws.proofs.JointIsJoint.{many_nodes, joint_circuit_is_joint}
 use Rattle.joint_laws.proofs.JointIsAcyclic.{joint_circuit_is_acyclic, joint_circuit_is_closed}
 use Rattle.joint_laws.proofs.JoinedCells.{joined_is_cell_secure}
 use Rattle.joint_laws.proofs.JoinedFaults.{joined_is_fault_secure}
+use Rattle.register_joints.specs.PartSource.{IsPartSecure, IsPartFaultSecure}
+use Rattle.register_joints.proofs.JoinedParts.{secure_parts_join, fault_secure_parts_join}
 use Rattle.module_join.specs.TreeNodes.{nodes_of_tree, tree_made}
 use Rattle.module_join.specs.JointNet.{PlannedOf, input_names, with_texts, inputs_from, joint_inputs, member, joint, joint_netlist}
-use Rattle.module_join.specs.JoinLaws.{planned, IsPlanned, ArePlanned, IsJointOf, JoinIsJoint, JoinIsCellSecure, JoinIsFaultSecure}
+use Rattle.module_join.specs.JoinLaws.{planned, IsPlanned, ArePlanned, IsJointOf, JoinIsJoint, JoinIsCellSecure, JoinIsFaultSecure, JoinIsSecureForSources, JoinIsFaultSecureForSources}
 use Rattle.module_join.proofs.TreeNodes.{tree_nodes_decide}
 use Rattle.module_join.proofs.TreeMade.{tree_is_made}
 
@@ -172,3 +174,19 @@ join_is_fault_secure M parts some are secure =
     joined_is_fault_secure M (joint parts) j.is_joint j.acyclic (λ i h.
     let low : i < length parts = omega (arith, j.counted) in
     subst₂ (IsFaultSecure (M i)) (sym (j.circuits i low)) (sym (j.plans i low)) (secure i low))
+
+-- planned netlists that are each secure for its source, logic or a circuit with registers, have a joint that is so for all these sources
+pub join_is_secure_for_sources : JoinIsSecureForSources
+join_is_secure_for_sources source parts some are secure =
+    let j = joined parts some are in
+    secure_parts_join source (joint parts) j.is_joint j.acyclic (λ i h.
+    let low : i < length parts = omega (arith, j.counted) in
+    subst₂ (IsPartSecure (source i)) (sym (j.circuits i low)) (sym (j.plans i low)) (secure i low))
+
+-- and so against each listed fault
+pub join_is_fault_secure_for_sources : JoinIsFaultSecureForSources
+join_is_fault_secure_for_sources source parts some are secure =
+    let j = joined parts some are in
+    fault_secure_parts_join source (joint parts) j.is_joint j.acyclic (λ i h.
+    let low : i < length parts = omega (arith, j.counted) in
+    subst₂ (IsPartFaultSecure (source i)) (sym (j.circuits i low)) (sym (j.plans i low)) (secure i low))

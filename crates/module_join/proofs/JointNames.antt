@@ -1,30 +1,31 @@
 -- No two nets of the joint netlist have one name.
-use Rattle.std.proofs.Common.{◌≡◌, ℕ, zero, suc, ◌+◌, ◌^◌, ◌<◌, Bool, true, false, List, [], ◌∷◌, ◌++◌, map, drop, length, slice_index_or, get_or, All, Contains, refl, sym, ap, subst, ◌∙◌, append_assoc, arith}
+use Rattle.std.proofs.Common.{◌≡◌, ℕ, zero, suc, ◌+◌, ◌^◌, ◌<◌, ◌||◌, true, false, List, [], ◌∷◌, ◌++◌, map, drop, length, slice_index_or, get_or, All, Contains, refl, sym, ap, subst, ◌∙◌, append_assoc, arith}
 use Rattle.std.specs.Fmt.{decimal}
 use Rattle.std.specs.Char.{digit_value}
 use Rattle.std.specs.Str.{bytes_eq}
 use Rattle.std.specs.Str.Parse.{AllDigits}
 use Rattle.std.specs.List.{list_any, range_with_len}
-use Rattle.std.proofs.lemmas.Bool.{or_parts}
 use Rattle.std.proofs.lemmas.Fmt.{decimal_is_IsNumeral, decimal_injective}
 use Rattle.std.proofs.lemmas.Str.Parse.{digit_from_value}
 use Rattle.std.proofs.Math.Seq.{take-append_seam, drop-append_seam}
 use Rattle.std.proofs.lemmas.List.{length-append, length-map, length-take-le, length-drop, get_or-drop, get_or-take}
 use Rattle.std.proofs.lemmas.List.Elements.{All-nil, All-cons, All-append, All-map, All-weaker, All-contains_itself}
+use Rattle.std.proofs.lemmas.List.Folds.{list_any-append}
 use Rattle.std.proofs.lemmas.List.FromFn.{length-map-range_with_len, get_or-map-range_with_len}
 use Rattle.fault_secure.specs.Circuit.{nets}
 use Rattle.tsc_net.specs.Names.{with_text, text_at, IsNumbering}
 use Rattle.tsc_net.specs.Parts.{begins_with, lettered_prefix}
 use Rattle.tsc_net.proofs.NameLemmas.{bytes_eq_refl, numbering-with_text}
-use Rattle.tsc_net.proofs.FreshNumbers.{prefix-one, free-isnt-taken-under}
+use Rattle.tsc_net.proofs.FreshNumbers.{prefix-one}
 use Rattle.code_checkers.specs.Tree.{tree_gates}
 use Rattle.joint_laws.specs.JointCircuit.{latches_in, nodes_in}
 use Rattle.joint_laws.proofs.JointIsJoint.{many_latches, many_nodes}
 use Rattle.module_join.specs.TreeNodes.{nodes_of_tree, tree_made}
-use Rattle.module_join.specs.JointNet.{PlannedOf, input_names, with_texts, inputs_from, joint_inputs, joint_prefix, own_text, tree_text, latch_names, node_names, own_texts, member, joint, joint_netlist}
-use Rattle.module_join.specs.JoinLaws.{planned, IsPlanned, ArePlanned, JoinIsBuilt}
+use Rattle.module_join.specs.JointNet.{PlannedOf, input_names, with_texts, inputs_from, joint_inputs, taken_names, joint_prefix, own_text, tree_text, latch_names, node_names, own_texts, member, joint, joint_netlist}
+use Rattle.module_join.specs.JoinLaws.{planned, IsPlanned, ArePlanned, JoinIsBuilt, ControlIsNoNet}
 use Rattle.module_join.proofs.Apart.{IsNone, Apart, apart_append, none_append, none_by_test, none_by_kinds, apart_map, numbering_of, apart_of}
 use Rattle.module_join.proofs.Joined.{joined, tree}
+use Rattle.module_join.proofs.Taken.{inputs_begin_otherwise, control_begins_otherwise, fails_has}
 
 -- ---- the inputs
 
@@ -35,11 +36,6 @@ all_numbering seen (t ∷ texts) h = all_numbering (with_text seen t) texts (num
 inputs_numbering : (seen : List (List ℕ)) (parts : List PlannedOf) → IsNumbering seen → IsNumbering (inputs_from seen parts)
 inputs_numbering seen [] h = h
 inputs_numbering seen (p ∷ parts) h = inputs_numbering (with_texts seen (input_names p.net)) parts (all_numbering seen (input_names p.net) h)
-
-fails_each : (p : List ℕ → Bool) (names : List (List ℕ)) → list_any p names ≡ false → All (λ t. p t ≡ false) names
-fails_each p [] h = All-nil (λ t. p t ≡ false)
-fails_each p (t ∷ names) h =
-    let both = or_parts (p t) (list_any p names) h in All-cons (λ t. p t ≡ false) t names both.0 (fails_each p names both.1)
 
 begins : (prefix rest : List ℕ) → begins_with prefix (prefix ++ rest) ≡ true
 begins prefix rest = ap (bytes_eq prefix) (take-append_seam prefix rest) ∙ bytes_eq_refl prefix
@@ -244,41 +240,46 @@ latch_or_node_text prefix parts are few t h k =
 begins_own : (prefix : List ℕ) (names : PlannedOf → List (List ℕ)) (i : ℕ) (parts : List PlannedOf) (t : List ℕ) → IsOwn prefix names i parts t → begins_with prefix t ≡ true
 begins_own prefix names i parts t h = ap (begins_with prefix) h.text ∙ begins prefix (decimal (i + h.number) ++ 95 ∷ h.name)
 
-joint_apart : (inputs : List (List ℕ)) (prefix : List ℕ) (parts : List PlannedOf) (n : ℕ) → IsNumbering inputs → All (λ t. begins_with prefix t ≡ false) inputs
-    → ArePlanned parts → length parts < 2 ^ 32 → n < 2 ^ 64
-    → Apart (inputs ++ (own_texts prefix latch_names 0 parts ++ (own_texts prefix node_names 0 parts ++ map (tree_text prefix) (range_with_len 0 n))))
-joint_apart inputs prefix parts n numbering free are few small =
-    apart_append inputs (latches ++ (nodes ++ trees)) (apart_of inputs numbering)
-    (apart_append latches (nodes ++ trees) (own_apart prefix latch_names 0 parts (omega arith) (each_latch parts are))
-    (apart_append nodes trees (own_apart prefix node_names 0 parts (omega arith) (each_node parts are)) (tree_apart prefix n small)
-    (none_by_kinds (IsOwn prefix node_names 0 parts) (IsOfTree prefix) nodes trees (own_or_tree prefix node_names parts (omega arith)) own_nodes own_trees))
-    (none_append latches nodes trees
-    (none_by_kinds (IsOwn prefix latch_names 0 parts) (IsOwn prefix node_names 0 parts) latches nodes (latch_or_node_text prefix parts are (omega arith)) own_latches own_nodes)
-    (none_by_kinds (IsOwn prefix latch_names 0 parts) (IsOfTree prefix) latches trees (own_or_tree prefix latch_names parts (omega arith)) own_latches own_trees)))
-    (none_by_test (begins_with prefix) inputs (latches ++ (nodes ++ trees)) free
-    (All-append (λ t. begins_with prefix t ≡ true) latches (nodes ++ trees)
-    (All-weaker (IsOwn prefix latch_names 0 parts) (λ t. begins_with prefix t ≡ true) (begins_own prefix latch_names 0 parts) latches own_latches)
-    (All-append (λ t. begins_with prefix t ≡ true) nodes trees
-    (All-weaker (IsOwn prefix node_names 0 parts) (λ t. begins_with prefix t ≡ true) (begins_own prefix node_names 0 parts) nodes own_nodes)
-    (All-weaker (IsOfTree prefix) (λ t. begins_with prefix t ≡ true) (λ t h. ap (begins_with prefix) h.text ∙ begins prefix (116 ∷ decimal h.number)) trees own_trees))))
-  where
-    latches : List (List ℕ)
-    latches = own_texts prefix latch_names 0 parts
+module _ (prefix : List ℕ) (parts : List PlannedOf) (n : ℕ) where
+  abbrev latches : List (List ℕ)
+  latches = own_texts prefix latch_names 0 parts
 
-    nodes : List (List ℕ)
-    nodes = own_texts prefix node_names 0 parts
+  abbrev nodes : List (List ℕ)
+  nodes = own_texts prefix node_names 0 parts
 
-    trees : List (List ℕ)
-    trees = map (tree_text prefix) (range_with_len 0 n)
+  abbrev trees : List (List ℕ)
+  trees = map (tree_text prefix) (range_with_len 0 n)
 
-    own_latches : All (IsOwn prefix latch_names 0 parts) (own_texts prefix latch_names 0 parts)
-    own_latches = all_own prefix latch_names 0 parts
+  own_latches : All (IsOwn prefix latch_names 0 parts) (own_texts prefix latch_names 0 parts)
+  own_latches = all_own prefix latch_names 0 parts
 
-    own_nodes : All (IsOwn prefix node_names 0 parts) (own_texts prefix node_names 0 parts)
-    own_nodes = all_own prefix node_names 0 parts
+  own_nodes : All (IsOwn prefix node_names 0 parts) (own_texts prefix node_names 0 parts)
+  own_nodes = all_own prefix node_names 0 parts
 
-    own_trees : All (IsOfTree prefix) (map (tree_text prefix) (range_with_len 0 n))
-    own_trees = all_of_tree prefix (range_with_len 0 n)
+  own_trees : All (IsOfTree prefix) (map (tree_text prefix) (range_with_len 0 n))
+  own_trees = all_of_tree prefix (range_with_len 0 n)
+
+  -- the names of all nets except the inputs begin with the prefix
+  all_begin : All (λ t. begins_with prefix t ≡ true) (own_texts prefix latch_names 0 parts ++ (own_texts prefix node_names 0 parts ++ map (tree_text prefix) (range_with_len 0 n)))
+  all_begin =
+      All-append (λ t. begins_with prefix t ≡ true) latches (nodes ++ trees)
+      (All-weaker (IsOwn prefix latch_names 0 parts) (λ t. begins_with prefix t ≡ true) (begins_own prefix latch_names 0 parts) latches own_latches)
+      (All-append (λ t. begins_with prefix t ≡ true) nodes trees
+      (All-weaker (IsOwn prefix node_names 0 parts) (λ t. begins_with prefix t ≡ true) (begins_own prefix node_names 0 parts) nodes own_nodes)
+      (All-weaker (IsOfTree prefix) (λ t. begins_with prefix t ≡ true) (λ t h. ap (begins_with prefix) h.text ∙ begins prefix (116 ∷ decimal h.number)) trees own_trees))
+
+  joint_apart : (inputs : List (List ℕ)) → IsNumbering inputs → All (λ t. begins_with prefix t ≡ false) inputs
+      → ArePlanned parts → length parts < 2 ^ 32 → n < 2 ^ 64
+      → Apart (inputs ++ (own_texts prefix latch_names 0 parts ++ (own_texts prefix node_names 0 parts ++ map (tree_text prefix) (range_with_len 0 n))))
+  joint_apart inputs numbering free are few small =
+      apart_append inputs (latches ++ (nodes ++ trees)) (apart_of inputs numbering)
+      (apart_append latches (nodes ++ trees) (own_apart prefix latch_names 0 parts (omega arith) (each_latch parts are))
+      (apart_append nodes trees (own_apart prefix node_names 0 parts (omega arith) (each_node parts are)) (tree_apart prefix n small)
+      (none_by_kinds (IsOwn prefix node_names 0 parts) (IsOfTree prefix) nodes trees (own_or_tree prefix node_names parts (omega arith)) own_nodes own_trees))
+      (none_append latches nodes trees
+      (none_by_kinds (IsOwn prefix latch_names 0 parts) (IsOwn prefix node_names 0 parts) latches nodes (latch_or_node_text prefix parts are (omega arith)) own_latches own_nodes)
+      (none_by_kinds (IsOwn prefix latch_names 0 parts) (IsOfTree prefix) latches trees (own_or_tree prefix latch_names parts (omega arith)) own_latches own_trees)))
+      (none_by_test (begins_with prefix) inputs (latches ++ (nodes ++ trees)) free all_begin)
 
 -- ---- as many names as nets
 
@@ -306,36 +307,49 @@ module _ (parts : List PlannedOf) (some : 0 < length parts) (are : ArePlanned pa
   many_n = many_nodes (length (joint_inputs parts)) (map (member (joint_inputs parts)) parts) (tree_gates (length parts)) (nodes_of_tree (tree_made (length parts))) (tree parts some are)
 
   -- where the names of the inputs are few enough that the prefix is free, and the parts so few that their numbers are told apart
-  pub joint_numbering : length (joint_inputs parts) < 2 ^ 32 → length parts < 2 ^ 32 → IsNumbering (joint_netlist parts).names
+  pub joint_numbering : length (joint_inputs parts) + 1 < 2 ^ 32 → length parts < 2 ^ 32 → IsNumbering (joint_netlist parts).names
   joint_numbering few_inputs few_parts = numbering_of (joint_netlist parts).names
-      (joint_apart (joint_inputs parts) (joint_prefix (joint_inputs parts)) parts (tree_gates (length parts))
+      (joint_apart (joint_prefix (taken_names parts)) parts (tree_gates (length parts)) (joint_inputs parts)
       (inputs_numbering [] parts (record { distinct = λ a b la lb e. absurd (omega arith) }))
-      (fails_each (begins_with (joint_prefix (joint_inputs parts))) (joint_inputs parts) (free-isnt-taken-under 112 (joint_inputs parts) few_inputs))
-      are few_parts (omega arith))
+      (inputs_begin_otherwise parts few_inputs) are few_parts (omega arith))
 
   -- a joint netlist has one name for each of its nets
   pub joint_sized : length (joint_netlist parts).names ≡ nets (joint parts).circuit
   joint_sized =
-      let prefix = joint_prefix (joint_inputs parts) in
-      let trees = map (tree_text (joint_prefix (joint_inputs parts))) (range_with_len 0 (tree_gates (length parts))) in
+      let prefix = joint_prefix (taken_names parts) in
+      let trees = map (tree_text (joint_prefix (taken_names parts))) (range_with_len 0 (tree_gates (length parts))) in
       length-append (joint_inputs parts) _
       ∙ ap (λ k. length (joint_inputs parts) + k)
       (length-append (own_texts prefix latch_names 0 parts) _
-      ∙ ap (λ k. length (own_texts (joint_prefix (joint_inputs parts)) latch_names 0 parts) + k) (length-append (own_texts prefix node_names 0 parts) trees))
+      ∙ ap (λ k. length (own_texts (joint_prefix (taken_names parts)) latch_names 0 parts) + k) (length-append (own_texts prefix node_names 0 parts) trees))
       ∙ omega (
         arith,
-        length-latch_texts (joint_inputs parts) (joint_prefix (joint_inputs parts)) 0 parts are,
-        length-node_texts (joint_inputs parts) (joint_prefix (joint_inputs parts)) 0 parts are,
-        length-map-range_with_len (tree_text (joint_prefix (joint_inputs parts))) 0 (tree_gates (length parts)),
+        length-latch_texts (joint_inputs parts) (joint_prefix (taken_names parts)) 0 parts are,
+        length-node_texts (joint_inputs parts) (joint_prefix (taken_names parts)) 0 parts are,
+        length-map-range_with_len (tree_text (joint_prefix (taken_names parts))) 0 (tree_gates (length parts)),
         many_l,
         many_n,
       )
+
+-- in a joint netlist of fewer than 2^32 nets there is a number for the control too, since the tree has nodes
+few_names : (parts : List PlannedOf) → 0 < length parts → ArePlanned parts → nets (joint parts).circuit < 2 ^ 32 → length (joint_inputs parts) + 1 < 2 ^ 32
+few_names parts some are few = omega (arith, many_n parts some are)
+
+-- the control of the joint's clock, where it is no input's name, is the name of no net
+pub control_is_no_net : ControlIsNoNet
+control_is_no_net parts clock some are few is input =
+    let prefix = joint_prefix (taken_names parts) in
+    let own = own_texts prefix latch_names 0 parts ++ (own_texts prefix node_names 0 parts ++ map (tree_text prefix) (range_with_len 0 (tree_gates (length parts)))) in
+    let otherwise = control_begins_otherwise parts (few_names parts some are few) clock is in
+    list_any-append (bytes_eq clock.control) (joint_inputs parts) own
+    ∙ ap (λ b. b || list_any (bytes_eq clock.control) own) input
+    ∙ fails_has (begins_with prefix) own clock.control otherwise (all_begin prefix parts (tree_gates (length parts)))
 
 -- a joint netlist of fewer than 2^32 nets is one as it is built: different nets have different names
 pub join_is_built : JoinIsBuilt
 join_is_built parts some are few =
     let j = joined parts some are in
-    let few_inputs : length (joint_inputs parts) < 2 ^ 32 = omega arith in
+    let few_inputs : length (joint_inputs parts) + 1 < 2 ^ 32 = few_names parts some are few in
     let few_parts : length parts < 2 ^ 32 = omega (arith, many_n parts some are) in
     record {
       closed = j.closed;

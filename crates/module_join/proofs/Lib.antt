@@ -1,9 +1,11 @@
 pub mod TreeNodes
 pub mod TreeMade
 pub mod Joined
+pub mod Taken
 pub mod Apart
 pub mod JointNames
 pub mod TwoJoined
 pub mod NetNames
 pub mod InputSteps
 pub mod PlannedParts
+pub mod PlanShows

@@ -9,7 +9,7 @@ use Rattle.tsc_net.specs.Names.{text_at}
 use Rattle.code_checkers.specs.Tree.{tree_gates}
 use Rattle.joint_laws.specs.Joint.{part, no_part}
 use Rattle.joint_laws.specs.JointCircuit.{latches_in, nodes_in, parts_from}
-use Rattle.module_join.specs.JointNet.{PlannedOf, joint_inputs, joint_prefix, own_text, tree_text, latch_names, node_names, own_texts, member, joint, joint_netlist}
+use Rattle.module_join.specs.JointNet.{PlannedOf, joint_inputs, taken_names, joint_prefix, own_text, tree_text, latch_names, node_names, own_texts, member, joint, joint_netlist}
 use Rattle.module_join.specs.JoinLaws.{planned, ArePlanned, JoinNamesNets}
 use Rattle.module_join.proofs.Joined.{joined}
 use Rattle.module_join.proofs.JointNames.{planned_at, length-latch_names, length-node_names, latch_name, node_name, length-latch_texts, length-node_texts, many_l}
@@ -60,10 +60,10 @@ module _ (parts : List PlannedOf) (some : 0 < length parts) (are : ArePlanned pa
   ins = joint_inputs parts
 
   abbrev prefix : List ℕ
-  prefix = joint_prefix (joint_inputs parts)
+  prefix = joint_prefix (taken_names parts)
 
   abbrev trees : List (List ℕ)
-  trees = map (tree_text (joint_prefix (joint_inputs parts))) (range_with_len 0 (tree_gates (length parts)))
+  trees = map (tree_text (joint_prefix (taken_names parts))) (range_with_len 0 (tree_gates (length parts)))
 
   begins_at : (i : ℕ) → i < length parts → ((part (joint parts) i).first_latch ≡ 0 + offset latch_names parts i) × ((part (joint parts) i).first_node ≡ 0 + offset node_names parts i)
   begins_at i h =
@@ -71,10 +71,10 @@ module _ (parts : List PlannedOf) (some : 0 < length parts) (are : ArePlanned pa
       begin_at (joint_inputs parts) (length (joint_inputs parts)) (latches_in ms) (length (joint_inputs parts) + latches_in ms + (nodes_in ms + tree_gates (length parts))) 0 0 parts are i h
 
   long_latches : length (own_texts prefix latch_names 0 parts) ≡ latches_in (map (member (joint_inputs parts)) parts)
-  long_latches = length-latch_texts (joint_inputs parts) (joint_prefix (joint_inputs parts)) 0 parts are
+  long_latches = length-latch_texts (joint_inputs parts) (joint_prefix (taken_names parts)) 0 parts are
 
   long_nodes : length (own_texts prefix node_names 0 parts) ≡ nodes_in (map (member (joint_inputs parts)) parts)
-  long_nodes = length-node_texts (joint_inputs parts) (joint_prefix (joint_inputs parts)) 0 parts are
+  long_nodes = length-node_texts (joint_inputs parts) (joint_prefix (taken_names parts)) 0 parts are
 
   -- the names at the places of latches, of nodes, and of the tree
   at_latches : (k : ℕ) → k < length (own_texts prefix latch_names 0 parts) → text_at (joint_netlist parts).names (length ins + k) ≡ text_at (own_texts prefix latch_names 0 parts) k
@@ -89,7 +89,7 @@ module _ (parts : List PlannedOf) (some : 0 < length parts) (are : ArePlanned pa
 
   latch_named : (i l : ℕ) → i < length parts → l < length (planned parts i).net.circuit.latches
       → text_at (joint_netlist parts).names ((part (joint parts) i).at (latch_net (planned parts i).net.circuit l))
-      ≡ own_text (joint_prefix (joint_inputs parts)) i (text_at (planned parts i).net.names (latch_net (planned parts i).net.circuit l))
+      ≡ own_text (joint_prefix (taken_names parts)) i (text_at (planned parts i).net.names (latch_net (planned parts i).net.circuit l))
   latch_named i l h low =
       let j = joined parts some are in
       let p = planned_at parts are i h in
@@ -97,16 +97,16 @@ module _ (parts : List PlannedOf) (some : 0 < length parts) (are : ArePlanned pa
       subst (λ (D : Circuit). l < length D.latches → (part (joint parts) i).at (latch_net D l) ≡ latch_net (joint parts).circuit ((part (joint parts) i).first_latch + l)) (j.circuits i h)
       (λ k. (j.is_joint.stand i (omega (arith, j.counted))).latch_nets l k) low in
       let begin = (begins_at i h).0 in
-      let own = own_at (joint_prefix (joint_inputs parts)) latch_names 0 parts i l h (omega (arith, length-latch_names (planned parts i) p)) in
+      let own = own_at (joint_prefix (taken_names parts)) latch_names 0 parts i l h (omega (arith, length-latch_names (planned parts i) p)) in
       ap (text_at (joint_netlist parts).names) (at ∙ omega arith)
       ∙ at_latches (offset latch_names parts i + l) own.1
       ∙ own.0
-      ∙ (let e : 0 + i ≡ i = omega arith in ap (λ n. own_text (joint_prefix (joint_inputs parts)) n (text_at (latch_names (planned parts i)) l)) e)
-      ∙ ap (own_text (joint_prefix (joint_inputs parts)) i) (latch_name (planned parts i) p l low)
+      ∙ (let e : 0 + i ≡ i = omega arith in ap (λ n. own_text (joint_prefix (taken_names parts)) n (text_at (latch_names (planned parts i)) l)) e)
+      ∙ ap (own_text (joint_prefix (taken_names parts)) i) (latch_name (planned parts i) p l low)
 
   node_named : (i n : ℕ) → i < length parts → n < length (planned parts i).net.circuit.nodes
       → text_at (joint_netlist parts).names ((part (joint parts) i).at (node_net (planned parts i).net.circuit n))
-      ≡ own_text (joint_prefix (joint_inputs parts)) i (text_at (planned parts i).net.names (node_net (planned parts i).net.circuit n))
+      ≡ own_text (joint_prefix (taken_names parts)) i (text_at (planned parts i).net.names (node_net (planned parts i).net.circuit n))
   node_named i n h low =
       let j = joined parts some are in
       let p = planned_at parts are i h in
@@ -114,21 +114,21 @@ module _ (parts : List PlannedOf) (some : 0 < length parts) (are : ArePlanned pa
       subst (λ (D : Circuit). n < length D.nodes → (part (joint parts) i).at (node_net D n) ≡ node_net (joint parts).circuit ((part (joint parts) i).first_node + n)) (j.circuits i h)
       (λ k. (j.is_joint.stand i (omega (arith, j.counted))).node_nets n k) low in
       let begin = (begins_at i h).1 in
-      let own = own_at (joint_prefix (joint_inputs parts)) node_names 0 parts i n h (omega (arith, length-node_names (planned parts i) p)) in
+      let own = own_at (joint_prefix (taken_names parts)) node_names 0 parts i n h (omega (arith, length-node_names (planned parts i) p)) in
       ap (text_at (joint_netlist parts).names) (at ∙ omega (arith, long_latches, many_l parts some are))
       ∙ at_behind (offset node_names parts i + n)
       ∙ get_or-append (own_texts prefix node_names 0 parts) trees [] (offset node_names parts i + n) own.1
       ∙ own.0
-      ∙ (let e : 0 + i ≡ i = omega arith in ap (λ m. own_text (joint_prefix (joint_inputs parts)) m (text_at (node_names (planned parts i)) n)) e)
-      ∙ ap (own_text (joint_prefix (joint_inputs parts)) i) (node_name (planned parts i) p n)
+      ∙ (let e : 0 + i ≡ i = omega arith in ap (λ m. own_text (joint_prefix (taken_names parts)) m (text_at (node_names (planned parts i)) n)) e)
+      ∙ ap (own_text (joint_prefix (taken_names parts)) i) (node_name (planned parts i) p n)
 
   tree_named : (k : ℕ) → k < tree_gates (length parts)
-      → text_at (joint_netlist parts).names (node_net (joint parts).circuit ((joint parts).tree + k)) ≡ tree_text (joint_prefix (joint_inputs parts)) k
+      → text_at (joint_netlist parts).names (node_net (joint parts).circuit ((joint parts).tree + k)) ≡ tree_text (joint_prefix (taken_names parts)) k
   tree_named k h =
       ap (text_at (joint_netlist parts).names) (omega (arith, long_latches, long_nodes, many_l parts some are))
       ∙ at_behind (length (own_texts prefix node_names 0 parts) + k)
       ∙ get_or-append-add (own_texts prefix node_names 0 parts) trees k []
-      ∙ get_or-map-range_with_len (tree_text (joint_prefix (joint_inputs parts))) 0 (tree_gates (length parts)) k k [] h (omega arith)
+      ∙ get_or-map-range_with_len (tree_text (joint_prefix (taken_names parts))) 0 (tree_gates (length parts)) k k [] h (omega arith)
 
 -- in a joint netlist the name of each net is that of where it comes from
 pub join_names_nets : JoinNamesNets
