@@ -10,7 +10,8 @@ use Rattle.tsc_net.specs.Named.{Named, NamedLatch, NamedNode}
 use Rattle.tsc_net.specs.Names.{text_at, IsNumbering}
 use Rattle.tsc_net.specs.NetlistOf.{named_of, names_of, named_latches, named_nodes}
 use Rattle.tsc_text.specs.Written.{WrittenLine, text_of}
-use Rattle.blif_write.specs.Layout.{latch_line, node_lines, head_lines, end_line, layout_with}
+use Rattle.blif_write.specs.Layout.{clocked_latch_line, node_lines, head_lines, end_line, clocked_layout}
+use Rattle.blif_write.specs.RegisterText.{clock_words}
 use Rattle.code_checkers.specs.Gates.{ReadsBelow, gate_at}
 use Rattle.code_checkers.specs.GateList.{GateList}
 use Rattle.code_checkers.specs.CheckerNodes.{gate_nets, gate_nodes}
@@ -19,7 +20,7 @@ use Rattle.code_checkers.proofs.TreeSize.{tree-nodes, tree-reads}
 use Rattle.joint_laws.specs.JointCircuit.{latches_in, nodes_in, nodes_of, outputs_from, rails_of}
 use Rattle.joint_laws.proofs.Standing.{length-parts_from, length-nodes_of}
 use Rattle.joint_laws.proofs.JointIsJoint.{length-rails_of}
-use Rattle.module_join.specs.JointNet.{PlannedOf, joint_inputs, tree_text, member, joint, joint_netlist}
+use Rattle.module_join.specs.JointNet.{PlannedOf, joint_clock, joint_inputs, tree_text, member, joint, joint_netlist}
 use Rattle.module_join.specs.TreeNodes.{tree_made}
 use Rattle.module_join.proofs.TreeMade.{tree_is_made}
 use Rattle.module_join.proofs.JointNames.{joint_numbering, many_l}
@@ -156,10 +157,11 @@ five a b c d e =
 
 -- the text of the joint, in portions
 pub joint_portions : (parts : List PlannedOf) → AreJoinable parts
-    → joint_bytes parts ≡ head_text parts ++ (latches_text (prefix_of parts) 0 parts ++ (nodes_text (prefix_of parts) 0 parts ++ tail_text parts))
+    → joint_bytes parts ≡ head_text parts ++ (latches_text (clock_words (joint_clock parts)) (prefix_of parts) 0 parts ++ (nodes_text (prefix_of parts) 0 parts ++ tail_text parts))
 joint_portions parts are =
     let N = joint_named parts in
-    ap (λ (M : Named). text_of (layout_with M [])) (joint_is_named parts are)
-    ∙ ap (λ (ls : List WrittenLine). text_of (((head_lines N ++ map latch_line N.latches) ++ ls) ++ end_line ∷ []))
+    let clock = clock_words (joint_clock parts) in
+    ap (λ (M : Named). text_of (clocked_layout clock M [])) (joint_is_named parts are)
+    ∙ ap (λ (ls : List WrittenLine). text_of (((head_lines N ++ map (clocked_latch_line clock) N.latches) ++ ls) ++ end_line ∷ []))
     (flat_map-append node_lines (nodes_under (prefix_of parts) 0 parts) (tree_named parts))
-    ∙ five (head_lines N) (map latch_line N.latches) (flat_map node_lines (nodes_under (prefix_of parts) 0 parts)) (flat_map node_lines (tree_named parts)) (end_line ∷ [])
+    ∙ five (head_lines N) (map (clocked_latch_line clock) N.latches) (flat_map node_lines (nodes_under (prefix_of parts) 0 parts)) (flat_map node_lines (tree_named parts)) (end_line ∷ [])

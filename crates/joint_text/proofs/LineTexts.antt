@@ -1,5 +1,5 @@
 -- The texts of lines, word by word.
-use Rattle.std.proofs.Common.{◌≡◌, ℕ, zero, suc, Bool, true, false, cond, List, [], ◌∷◌, ◌++◌, codes, length, ◌==◌, true≢false, refl, sym, ap, ◌∙◌, append_assoc, append-nil}
+use Rattle.std.proofs.Common.{◌≡◌, ℕ, zero, suc, Bool, true, false, cond, List, [], ◌∷◌, ◌++◌, Option, None, Some, codes, length, ◌==◌, true≢false, refl, sym, ap, ◌∙◌, append_assoc, append-nil}
 use Rattle.std.specs.List.{join_with_byte}
 use Rattle.std.proofs.Math.Dec.{eqb-suc-zero}
 use Rattle.tsc_cover.specs.Cover.{Literal, literals}
@@ -8,9 +8,11 @@ use Rattle.tsc_text.specs.Lines.{ends_in}
 use Rattle.tsc_text.specs.Written.{WrittenLine, kept_apart, line_text, text_of, line_of_words}
 use Rattle.tsc_text.proofs.Parts.{ends_in-append}
 use Rattle.tsc_net.specs.Named.{NamedLatch, NamedNode}
-use Rattle.blif_write.specs.Layout.{bit_character, latch_line, names_line, row_line}
+use Rattle.blif_read.specs.declared.clocks.Clock.{Clock}
+use Rattle.blif_write.specs.Layout.{bit_character, clocked_latch_line, names_line, row_line}
+use Rattle.blif_write.specs.RegisterText.{clock_words, type_word}
 use Rattle.blif_write.specs.Steps.{line_end}
-use Rattle.joint_text.specs.LineWords.{spaced, row_end, latch_end}
+use Rattle.joint_text.specs.LineWords.{spaced, row_end, latch_end, type_text, control_text}
 
 pub text_of-append : (xs ys : List WrittenLine) → text_of (xs ++ ys) ≡ text_of xs ++ text_of ys
 text_of-append [] ys = refl
@@ -66,13 +68,27 @@ names_line_is n =
     ∙ sym (append_assoc (codes ".names") (spaced n.reads) (32 ∷ n.out)))
     ∙ append_assoc (codes ".names") (spaced n.reads) (32 ∷ (n.out ++ line_end n.out))
 
--- the line of a latch
-pub latch_line_is : (l : NamedLatch) → line_text (latch_line l) ≡ codes ".latch " ++ (l.reads ++ (32 ∷ (l.out ++ latch_end l.init)))
-latch_line_is l =
-    line_ended (codes ".latch") (l.reads ∷ l.out ∷ (bit_character l.init ∷ []) ∷ []) (codes ".latch " ++ (l.reads ++ 32 ∷ l.out)) (bit_character l.init ∷ [])
-    (ap (λ rest. codes ".latch " ++ rest) (sym (append_assoc l.reads (32 ∷ l.out) (32 ∷ bit_character l.init ∷ []))))
-    ∙ ap (λ e. (codes ".latch " ++ (l.reads ++ 32 ∷ l.out)) ++ (32 ∷ bit_character l.init ∷ e)) (bit_end l.init)
-    ∙ ap (λ rest. codes ".latch " ++ rest) (append_assoc l.reads (32 ∷ l.out) (latch_end l.init))
+-- the words of a clock in a line
+pub clock_spaced : (clock : Option Clock) → type_text clock ++ control_text clock ≡ spaced (clock_words clock)
+clock_spaced None = refl
+clock_spaced (Some clock) =
+    let type = type_word clock.edge in
+    ap (λ rest. 32 ∷ rest) (append_assoc type (32 ∷ []) clock.control ∙ ap (λ rest. type ++ 32 ∷ rest) (sym (append-nil clock.control)))
+
+-- the line of a latch, with the words of a clock
+pub latch_line_is : (clock : List (List ℕ)) (l : NamedLatch)
+    → line_text (clocked_latch_line clock l) ≡ codes ".latch " ++ (l.reads ++ (32 ∷ (l.out ++ (spaced clock ++ latch_end l.init))))
+latch_line_is clock l =
+    let bit = bit_character l.init ∷ [] in
+    let own = l.reads ++ 32 ∷ (l.out ++ spaced clock) in
+    line_ended (codes ".latch") (l.reads ∷ l.out ∷ (clock ++ bit ∷ [])) (codes ".latch " ++ own) bit
+    (ap (λ rest. codes ".latch " ++ (l.reads ++ 32 ∷ (l.out ++ rest))) (spaced-append clock (bit ∷ []))
+    ∙ ap (λ rest. codes ".latch " ++ rest) (placed l.reads l.out (spaced clock) (32 ∷ bit)))
+    ∙ ap (λ e. (codes ".latch " ++ own) ++ (32 ∷ bit_character l.init ∷ e)) (bit_end l.init)
+    ∙ ap (λ rest. codes ".latch " ++ rest) (sym (placed l.reads l.out (spaced clock) (latch_end l.init)))
+  where
+    placed : (reads out words rest : List ℕ) → reads ++ (32 ∷ (out ++ (words ++ rest))) ≡ (reads ++ 32 ∷ (out ++ words)) ++ rest
+    placed reads out words rest = ap (λ t. reads ++ 32 ∷ t) (sym (append_assoc out words rest)) ∙ sym (append_assoc reads (32 ∷ (out ++ words)) rest)
 
 -- the line of a row
 row_line_is : (l : Literal) (row : List Literal) (on : Bool)

@@ -2,17 +2,17 @@
 use Rattle.std.proofs.Common.{◌≡◌, ℕ, ◌+◌, ◌<◌, ◌≤◌, List, [], ◌++◌, take, drop, length, get_or, Some, slice_get, sym, ap, ◌∙◌, append_assoc, arith}
 use Rattle.std.proofs.lemmas.List.{length-map, length-take-le, get_or-map, get_or-take, drop_all}
 use Rattle.code_checkers.proofs.Loops.{drop_at}
-use Rattle.fault_secure.specs.CodePlan.{IsPlanOf}
 use Rattle.tsc_net.specs.Names.{with_text, text_at}
 use Rattle.tsc_net.specs.PlanView.{net_numbers}
 use Rattle.tsc_net.specs.declared.ids.NetId.{NetId}
-use Rattle.tsc_net.specs.declared.planned.PlannedNetlist.{PlannedNetlist}
+use Rattle.module_join.specs.declared.part.Part.{Part}
 use Rattle.module_join.specs.JointNet.{PlannedOf, with_texts}
+use Rattle.module_join.specs.JoinLaws.{IsShownBy}
 use Rattle.module_join.specs.JoinParts.{planned_as, parts_as}
 use Rattle.joint_text.specs.JointNamed.{part_label, names_under, shown_names, shown_from, rail_pair, rail_names}
 use Rattle.joint_text.proofs.PartSteps.{part_more}
 
-module _ (label : List ℕ) (p : PlannedOf) (is : IsPlanOf p.net.circuit p.plan) where
+module _ (label : List ℕ) (p : PlannedOf) (is : IsShownBy p.net.circuit p.plan) where
   abbrev shown : List ℕ
   shown = take p.plan.outputs p.net.circuit.outputs
 
@@ -46,7 +46,7 @@ module _ (label : List ℕ) (p : PlannedOf) (is : IsPlanOf p.net.circuit p.plan)
   shown_end place seen e = ap (with_texts seen) (drop_all place (shown_names label p) (omega (arith, shown_length)))
 
 -- one part more
-pub part_shown : (prefix label : List ℕ) (parts : List PlannedNetlist) (place : ℕ) (p : PlannedNetlist) (seen next goal : List (List ℕ))
+pub part_shown : (prefix label : List ℕ) (parts : List Part) (place : ℕ) (p : Part) (seen next goal : List (List ℕ))
     → slice_get parts place ≡ Some p → label ≡ part_label prefix place → next ≡ with_texts seen (shown_names label (planned_as p))
     → shown_from prefix place seen (parts_as (drop place parts)) ≡ goal
     → shown_from prefix (place + 1) next (parts_as (drop (place + 1) parts)) ≡ goal
@@ -56,7 +56,7 @@ part_shown prefix label parts place p seen next goal found is added h =
     ∙ ap (shown_from prefix place seen) (sym (part_more parts place p found))
     ∙ h
 
-pub part_rails : (prefix label : List ℕ) (parts : List PlannedNetlist) (place : ℕ) (p : PlannedNetlist) (seen next goal : List (List ℕ))
+pub part_rails : (prefix label : List ℕ) (parts : List Part) (place : ℕ) (p : Part) (seen next goal : List (List ℕ))
     → slice_get parts place ≡ Some p → label ≡ part_label prefix place → next ≡ seen ++ rail_pair label (planned_as p)
     → seen ++ rail_names prefix place (parts_as (drop place parts)) ≡ goal
     → next ++ rail_names prefix (place + 1) (parts_as (drop (place + 1) parts)) ≡ goal

@@ -16,10 +16,10 @@ use Rattle.tsc_net.specs.Names.{text_at}
 use Rattle.tsc_net.specs.PlanView.{net_numbers}
 use Rattle.tsc_net.specs.declared.ids.NetId.{NetId}
 use Rattle.tsc_net.specs.NetlistOf.{NetlistOf, names_of, named_latches, named_nodes, named_of}
-use Rattle.tsc_net.specs.declared.planned.PlannedNetlist.{PlannedNetlist}
 use Rattle.tsc_text.specs.Written.{line_text, text_of}
-use Rattle.blif_write.specs.Layout.{latch_line, node_lines, row_line}
+use Rattle.blif_write.specs.Layout.{clocked_latch_line, node_lines, row_line}
 use Rattle.blif_write.specs.NetLines.{named_latch, named_node}
+use Rattle.module_join.specs.declared.part.Part.{Part}
 use Rattle.module_join.specs.JoinParts.{planned_as, parts_as}
 use Rattle.module_join.specs.JoinLaws.{IsPlanned, ArePlanned}
 use Rattle.joint_text.specs.JointNamed.{part_label, under, latches_under, nodes_under, labels_of, prefix_of}
@@ -34,18 +34,18 @@ one_more xs place x found =
     drop_more xs place x (slice_get_within xs place x found) ∙ ap (λ y. y ∷ drop (place + 1) xs) (get_or_from_slice_get xs place x x found)
 
 -- the lines of the latches from one on: its own, and those of the others
-pub latch_step : (net : NetlistOf) (place : ℕ) → place < length net.circuit.latches
-    → text_of (map latch_line (named_latches net.names (net.circuit.inputs + place) (drop place net.circuit.latches)))
-    ≡ line_text (latch_line (named_latch net place)) ++ text_of (map latch_line (named_latches net.names (net.circuit.inputs + (place + 1)) (drop (place + 1) net.circuit.latches)))
-latch_step net place within =
+pub latch_step : (clock : List (List ℕ)) (net : NetlistOf) (place : ℕ) → place < length net.circuit.latches
+    → text_of (map (clocked_latch_line clock) (named_latches net.names (net.circuit.inputs + place) (drop place net.circuit.latches)))
+    ≡ line_text (clocked_latch_line clock (named_latch net place)) ++ text_of (map (clocked_latch_line clock) (named_latches net.names (net.circuit.inputs + (place + 1)) (drop (place + 1) net.circuit.latches)))
+latch_step clock net place within =
     let next : net.circuit.inputs + place + 1 ≡ net.circuit.inputs + (place + 1) = omega arith in
-    ap (λ (ls : List LatchOf). text_of (map latch_line (named_latches net.names (net.circuit.inputs + place) ls))) (drop_more net.circuit.latches place no_latch within)
-    ∙ ap (λ at. line_text (latch_line (named_latch net place)) ++ text_of (map latch_line (named_latches net.names at (drop (place + 1) net.circuit.latches)))) next
+    ap (λ (ls : List LatchOf). text_of (map (clocked_latch_line clock) (named_latches net.names (net.circuit.inputs + place) ls))) (drop_more net.circuit.latches place no_latch within)
+    ∙ ap (λ at. line_text (clocked_latch_line clock (named_latch net place)) ++ text_of (map (clocked_latch_line clock) (named_latches net.names at (drop (place + 1) net.circuit.latches)))) next
 
-pub latches_begin : (net : NetlistOf)
-    → text_of (map latch_line (named_latches net.names (net.circuit.inputs + 0) (drop 0 net.circuit.latches))) ≡ text_of (map latch_line (named_of net).latches)
-latches_begin net = let at : net.circuit.inputs + 0 ≡ net.circuit.inputs = omega arith in
-    ap (λ n. text_of (map latch_line (named_latches net.names n net.circuit.latches))) at
+pub latches_begin : (clock : List (List ℕ)) (net : NetlistOf)
+    → text_of (map (clocked_latch_line clock) (named_latches net.names (net.circuit.inputs + 0) (drop 0 net.circuit.latches))) ≡ text_of (map (clocked_latch_line clock) (named_of net).latches)
+latches_begin clock net = let at : net.circuit.inputs + 0 ≡ net.circuit.inputs = omega arith in
+    ap (λ n. text_of (map (clocked_latch_line clock) (named_latches net.names n net.circuit.latches))) at
 
 -- the lines of the nodes from one on
 pub node_step : (net : NetlistOf) (place : ℕ) → place < length net.circuit.nodes
@@ -74,40 +74,40 @@ label_is prefix count place labels label is within found =
     ∙ ap (λ (l : List (List ℕ)). get_or l place []) is
     ∙ get_or-map-range_with_len (part_label prefix) 0 count place place [] within (omega arith)
 
-pub labels_long : (parts : List PlannedNetlist) (labels : List (List ℕ)) → labels ≡ labels_of (parts_as parts) → length labels ≡ length parts
+pub labels_long : (parts : List Part) (labels : List (List ℕ)) → labels ≡ labels_of (parts_as parts) → length labels ≡ length parts
 labels_long parts labels is =
     ap length is ∙ length-map-range_with_len (part_label (prefix_of (parts_as parts))) 0 (length (parts_as parts)) ∙ length-map parts planned_as
 
-pub label_at : (parts : List PlannedNetlist) (labels : List (List ℕ)) (place : ℕ) (got label : List ℕ) → labels ≡ labels_of (parts_as parts) → place < length parts
+pub label_at : (parts : List Part) (labels : List (List ℕ)) (place : ℕ) (got label : List ℕ) → labels ≡ labels_of (parts_as parts) → place < length parts
     → slice_get labels place ≡ Some got → label ≡ got → label ≡ part_label (prefix_of (parts_as parts)) place
 label_at parts labels place got label is within found same =
     same ∙ label_is (prefix_of (parts_as parts)) (length (parts_as parts)) place labels got is (omega (arith, length-map parts planned_as)) found
 
 -- a part has a plan of it
-pub planned_there : (parts : List PlannedNetlist) (place : ℕ) (p : PlannedNetlist) → ArePlanned (parts_as parts) → slice_get parts place ≡ Some p → IsPlanned (planned_as p)
+pub planned_there : (parts : List Part) (place : ℕ) (p : Part) → ArePlanned (parts_as parts) → slice_get parts place ≡ Some p → IsPlanned (planned_as p)
 planned_there [] place p are found = absurd (none found)
   where
     none : None ≡ Some p → ⊥
     none e = cc
-planned_there (q ∷ parts) zero p are found = let same : q ≡ p = cc in subst (λ (r : PlannedNetlist). IsPlanned (planned_as r)) same are.0
+planned_there (q ∷ parts) zero p are found = let same : q ≡ p = cc in subst (λ (r : Part). IsPlanned (planned_as r)) same are.0
 planned_there (q ∷ parts) (suc place) p are found = planned_there parts place p are.1 found
 
 -- what is left of the parts
-pub part_more : (parts : List PlannedNetlist) (place : ℕ) (p : PlannedNetlist) → slice_get parts place ≡ Some p
+pub part_more : (parts : List Part) (place : ℕ) (p : Part) → slice_get parts place ≡ Some p
     → parts_as (drop place parts) ≡ planned_as p ∷ parts_as (drop (place + 1) parts)
 part_more parts place p found = ap parts_as (one_more parts place p found)
 
-pub latches_step : (prefix label : List ℕ) (parts : List PlannedNetlist) (place : ℕ) (p : PlannedNetlist) → slice_get parts place ≡ Some p → label ≡ part_label prefix place
-    → latches_text prefix place (parts_as (drop place parts))
-    ≡ text_of (map latch_line (named_of (under label p.net)).latches) ++ latches_text prefix (place + 1) (parts_as (drop (place + 1) parts))
-latches_step prefix label parts place p found is =
+pub latches_step : (clock : List (List ℕ)) (prefix label : List ℕ) (parts : List Part) (place : ℕ) (p : Part) → slice_get parts place ≡ Some p → label ≡ part_label prefix place
+    → latches_text clock prefix place (parts_as (drop place parts))
+    ≡ text_of (map (clocked_latch_line clock) (named_of (under label p.net)).latches) ++ latches_text clock prefix (place + 1) (parts_as (drop (place + 1) parts))
+latches_step clock prefix label parts place p found is =
     let rest = latches_under prefix (place + 1) (parts_as (drop (place + 1) parts)) in
-    ap (latches_text prefix place) (part_more parts place p found)
-    ∙ ap text_of (map-append latch_line (named_of (under (part_label prefix place) p.net)).latches rest)
-    ∙ text_of-append (map latch_line (named_of (under (part_label prefix place) p.net)).latches) (map latch_line rest)
-    ∙ ap (λ l. text_of (map latch_line (named_of (under l p.net)).latches) ++ text_of (map latch_line rest)) (sym is)
+    ap (latches_text clock prefix place) (part_more parts place p found)
+    ∙ ap text_of (map-append (clocked_latch_line clock) (named_of (under (part_label prefix place) p.net)).latches rest)
+    ∙ text_of-append (map (clocked_latch_line clock) (named_of (under (part_label prefix place) p.net)).latches) (map (clocked_latch_line clock) rest)
+    ∙ ap (λ l. text_of (map (clocked_latch_line clock) (named_of (under l p.net)).latches) ++ text_of (map (clocked_latch_line clock) rest)) (sym is)
 
-pub nodes_step : (prefix label : List ℕ) (parts : List PlannedNetlist) (place : ℕ) (p : PlannedNetlist) → slice_get parts place ≡ Some p → label ≡ part_label prefix place
+pub nodes_step : (prefix label : List ℕ) (parts : List Part) (place : ℕ) (p : Part) → slice_get parts place ≡ Some p → label ≡ part_label prefix place
     → nodes_text prefix place (parts_as (drop place parts))
     ≡ text_of (flat_map node_lines (named_of (under label p.net)).nodes) ++ nodes_text prefix (place + 1) (parts_as (drop (place + 1) parts))
 nodes_step prefix label parts place p found is =

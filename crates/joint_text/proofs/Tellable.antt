@@ -1,5 +1,5 @@
--- The joint of netlists that texts can hold is one that a text tells; and it is secure where each part is.
-use Rattle.std.proofs.Common.{◌≡◌, ℕ, zero, suc, ◌+◌, ◌*◌, ◌^◌, ◌<◌, ◌≤◌, Bool, true, false, nat_le, if◌then◌else◌, List, [], ◌∷◌, ◌++◌, map, drop, length, slice_index_or, All, refl, sym, ap, subst, arith, inl, inr}
+-- The joint of parts that a text tells is one that a text tells; and it is secure where each part is.
+use Rattle.std.proofs.Common.{◌≡◌, ℕ, zero, suc, ◌+◌, ◌*◌, ◌^◌, ◌<◌, ◌≤◌, Bool, true, false, nat_le, if◌then◌else◌, List, [], ◌∷◌, ◌++◌, Option, None, Some, map, drop, length, slice_index_or, All, refl, sym, ap, subst, arith, inl, inr}
 use Rattle.std.specs.Fmt.{decimal}
 use Rattle.std.specs.List.{list_all, range_with_len}
 use Rattle.std.specs.Str.Parse.{AllDigits}
@@ -13,24 +13,30 @@ use Rattle.fault_secure.specs.Circuit.{NodeOf, nets}
 use Rattle.tsc_text.specs.Bytes.{is_allowed}
 use Rattle.tsc_text.specs.Written.{is_word_byte}
 use Rattle.tsc_text.proofs.Written.{Both, both, list_all-append}
+use Rattle.tsc_net.specs.Limits.{most_nets}
 use Rattle.tsc_net.specs.Names.{has_text, with_text}
 use Rattle.tsc_net.specs.Parts.{lettered_prefix, is_taken_under, free_number_under, free_number_under_from}
 use Rattle.tsc_net.proofs.NameLemmas.{length-with_text-most}
-use Rattle.blif_write.specs.Told.{IsWordName, IsToldNode, IsTellable}
-use Rattle.blif_write.specs.Writable.{IsGoodName, IsWritable}
-use Rattle.blif_write.proofs.Told.{tells}
+use Rattle.blif_read.specs.declared.clocks.Clock.{Clock}
+use Rattle.blif_write.specs.Told.{IsWordName, IsToldNode, IsTellable, IsToldClock}
+use Rattle.blif_write.proofs.RegistersTold.{registers-told}
 use Rattle.code_checkers.specs.declared.gate.CheckGate.{CheckGate}
 use Rattle.code_checkers.specs.declared.gate.CheckGate.TheVariants as gate
 use Rattle.code_checkers.specs.CheckerNodes.{gate_nets, gate_nodes}
 use Rattle.code_checkers.specs.Tree.{tree_gates}
 use Rattle.joint_laws.specs.Parts.{moved_node}
+use Rattle.joint_laws.specs.Joint.{JointOf}
+use Rattle.joint_laws.specs.JointSecure.{IsJointCellSecure, IsJointFaultSecure}
+use Rattle.register_joints.specs.SourcesSecure.{IsCellSecureForSources, IsFaultSecureForSources}
 use Rattle.joint_laws.specs.JointCircuit.{latches_in, nodes_in, parts_from, nodes_of, rails_of}
-use Rattle.module_join.specs.JointNet.{PlannedOf, input_names, with_texts, inputs_from, joint_inputs, joint_prefix, own_text, tree_text, latch_names, node_names, own_texts, member, joint, joint_netlist}
+use Rattle.module_join.specs.JointNet.{PlannedOf, input_names, with_texts, inputs_from, joint_inputs, joint_clock, clock_or, with_control, taken_names, joint_prefix, own_text, tree_text, latch_names, node_names, own_texts, member, joint, joint_netlist}
 use Rattle.module_join.specs.JoinLaws.{ArePlanned}
 use Rattle.module_join.specs.TreeNodes.{tree_made}
-use Rattle.module_join.proofs.Joined.{joined, join_is_cell_secure, join_is_fault_secure}
+use Rattle.module_join.proofs.Joined.{joined, join_is_cell_secure, join_is_fault_secure, join_is_secure_for_sources, join_is_fault_secure_for_sources}
+use Rattle.module_join.proofs.Taken.{length-with_control}
 use Rattle.module_join.proofs.JointNames.{join_is_built, many_l, many_n}
-use Rattle.joint_text.specs.JointTextLaws.{AreWritable, JointTextTells, JointTextIsCellSecure, JointTextIsFaultSecure}
+use Rattle.joint_text.specs.JointTextLaws.{AreTellable, TellsJoint, JointTextTells, JointTextIsCellSecure, JointTextIsFaultSecure, JointTextIsSecureForSources, JointTextIsFaultSecureForSources}
+use Rattle.joint_text.specs.JointText.{joint_bytes}
 
 -- ---- how many nets
 
@@ -38,28 +44,21 @@ texts_most : (seen texts : List (List ℕ)) → length (with_texts seen texts) �
 texts_most seen [] = omega arith
 texts_most seen (t ∷ texts) = omega (arith, texts_most (with_text seen t) texts, length-with_text-most seen t)
 
-inputs_most : (seen : List (List ℕ)) (parts : List PlannedOf) → AreWritable parts → ArePlanned parts → length (inputs_from seen parts) ≤ length seen + 1024 * length parts
-inputs_most seen [] can are = omega arith
-inputs_most seen (p ∷ parts) can are =
-    let few = can.0.inputs in
+-- the nets of all parts together
+nets_most : (names seen : List (List ℕ)) (parts : List PlannedOf) → AreTellable parts → ArePlanned parts
+    → length (inputs_from seen parts) + latches_in (map (member names) parts) + nodes_in (map (member names) parts) ≤ length seen + most_nets * length parts
+nets_most names seen [] can are = omega arith
+nets_most names seen (p ∷ parts) can are =
+    let few = can.0.few in
     let sized = are.0.built.sized in
     let own = length-take-le p.net.circuit.inputs p.net.names (omega (arith, sized)) in
-    omega (arith, few, own, texts_most seen (input_names p.net), inputs_most (with_texts seen (input_names p.net)) parts can.1 are.1)
+    omega (arith, few, own, texts_most seen (input_names p.net), nets_most names (with_texts seen (input_names p.net)) parts can.1 are.1)
 
-latches_most : (names : List (List ℕ)) (parts : List PlannedOf) → AreWritable parts → latches_in (map (member names) parts) ≤ 64 * length parts
-latches_most names [] can = omega arith
-latches_most names (p ∷ parts) can = let few = can.0.latches in omega (arith, few, latches_most names parts can.1)
+few_nets : (parts : List PlannedOf) → 0 < length parts → length parts ≤ 64 → ArePlanned parts → AreTellable parts → nets (joint parts).circuit < 2 ^ 32
+few_nets parts some few are can = omega (arith, nets_most (joint_inputs parts) [] parts can are, many_l parts some are, many_n parts some are)
 
-nodes_most : (names : List (List ℕ)) (parts : List PlannedOf) → AreWritable parts → nodes_in (map (member names) parts) ≤ 1048576 * length parts
-nodes_most names [] can = omega arith
-nodes_most names (p ∷ parts) can = let few = can.0.nodes in omega (arith, few, nodes_most names parts can.1)
-
-few_nets : (parts : List PlannedOf) → 0 < length parts → length parts ≤ 64 → ArePlanned parts → AreWritable parts → nets (joint parts).circuit < 2 ^ 32
-few_nets parts some few are can =
-    omega (arith, inputs_most [] parts can are, latches_most (joint_inputs parts) parts can, nodes_most (joint_inputs parts) parts can, many_l parts some are, many_n parts some are)
-
-few_inputs : (parts : List PlannedOf) → length parts ≤ 64 → ArePlanned parts → AreWritable parts → length (joint_inputs parts) < 2 ^ 32
-few_inputs parts few are can = omega (arith, inputs_most [] parts can are)
+few_inputs : (parts : List PlannedOf) → length parts ≤ 64 → ArePlanned parts → AreTellable parts → length (joint_inputs parts) < 2 ^ 32
+few_inputs parts few are can = omega (arith, nets_most (joint_inputs parts) [] parts can are)
 
 -- ---- the bytes of names
 
@@ -138,9 +137,6 @@ free_from names (suc tries) number = by (is_taken_under 112 names number) (free_
 
 -- ---- all names
 
-good_names : (names : List (List ℕ)) → All IsGoodName names → All IsWordName names
-good_names names h = All-weaker IsGoodName IsWordName (λ name g. record { word = g.word; allowed = g.allowed }) names h
-
 all_texts : (seen texts : List (List ℕ)) → All IsWordName seen → All IsWordName texts → All IsWordName (with_texts seen texts)
 all_texts seen [] h k = h
 all_texts seen (t ∷ texts) h k = all_texts (with_text seen t) texts more (All-tail IsWordName t texts k)
@@ -152,19 +148,19 @@ all_texts seen (t ∷ texts) h k = all_texts (with_text seen t) texts more (All-
           (All-append IsWordName seen (t ∷ []) h (All-cons IsWordName t [] (All-head IsWordName t texts k) (All-nil IsWordName)))
     ]
 
-inputs_word : (seen : List (List ℕ)) (parts : List PlannedOf) → AreWritable parts → All IsWordName seen → All IsWordName (inputs_from seen parts)
+inputs_word : (seen : List (List ℕ)) (parts : List PlannedOf) → AreTellable parts → All IsWordName seen → All IsWordName (inputs_from seen parts)
 inputs_word seen [] can h = h
 inputs_word seen (p ∷ parts) can h =
     inputs_word (with_texts seen (input_names p.net)) parts can.1
-    (all_texts seen (input_names p.net) h (All-take IsWordName p.net.circuit.inputs p.net.names (good_names p.net.names can.0.names)))
+    (all_texts seen (input_names p.net) h (All-take IsWordName p.net.circuit.inputs p.net.names can.0.net.names))
 
 own_word : (n i : ℕ) (names : PlannedOf → List (List ℕ)) (parts : List PlannedOf) → n < 2 ^ 64 → i + length parts ≤ 2 ^ 64
-    → ((p : PlannedOf) → IsWritable p.net → All IsWordName (names p)) → AreWritable parts → All IsWordName (own_texts (lettered_prefix 112 n) names i parts)
+    → ((p : PlannedOf) → IsTellable p.net → All IsWordName (names p)) → AreTellable parts → All IsWordName (own_texts (lettered_prefix 112 n) names i parts)
 own_word n i names [] small few each can = All-nil IsWordName
 own_word n i names (p ∷ parts) small few each can =
     All-append IsWordName (map (own_text (lettered_prefix 112 n) i) (names p)) (own_texts (lettered_prefix 112 n) names (i + 1) parts)
     (All-map IsWordName (own_text (lettered_prefix 112 n) i) (names p)
-    (All-weaker IsWordName (λ name. IsWordName (own_text (lettered_prefix 112 n) i name)) (λ name h. own_name n i name small (omega arith) h) (names p) (each p can.0)))
+    (All-weaker IsWordName (λ name. IsWordName (own_text (lettered_prefix 112 n) i name)) (λ name h. own_name n i name small (omega arith) h) (names p) (each p can.0.net)))
     (own_word n (i + 1) names parts small (omega arith) each can.1)
 
 tree_word : (n count : ℕ) → n < 2 ^ 64 → count ≤ 2 ^ 64 → All IsWordName (map (tree_text (lettered_prefix 112 n)) (range_with_len 0 count))
@@ -180,12 +176,12 @@ tree_word n count small few =
 moved_told : (at : ℕ → ℕ) (nodes : List NodeOf) → All IsToldNode nodes → All IsToldNode (map (moved_node at) nodes)
 moved_told at nodes h = All-map IsToldNode (moved_node at) nodes (All-weaker IsToldNode (λ n. IsToldNode (moved_node at n)) (λ n k. k) nodes h)
 
-parts_told : (names : List (List ℕ)) (inputs latches past fl fn : ℕ) (parts : List PlannedOf) → AreWritable parts
+parts_told : (names : List (List ℕ)) (inputs latches past fl fn : ℕ) (parts : List PlannedOf) → AreTellable parts
     → All IsToldNode (nodes_of (parts_from inputs latches past fl fn (map (member names) parts)))
 parts_told names inputs latches past fl fn [] can = All-nil IsToldNode
 parts_told names inputs latches past fl fn (p ∷ parts) can =
     All-append IsToldNode _ (nodes_of (parts_from inputs latches past (fl + length p.net.circuit.latches) (fn + length p.net.circuit.nodes) (map (member names) parts)))
-    (moved_told _ p.net.circuit.nodes (λ j d h. (can.0.each_node j d h).set))
+    (moved_told _ p.net.circuit.nodes can.0.net.each_node)
     (parts_told names inputs latches past (fl + length p.net.circuit.latches) (fn + length p.net.circuit.nodes) parts can.1)
 
 tree_told : (nets : List ℕ) (gates : List CheckGate) → All IsToldNode (gate_nodes nets gates)
@@ -199,22 +195,24 @@ tree_told nets (gate.Xor a b ∷ gates) = All-cons IsToldNode _ (gate_nodes nets
 
 -- ---- the laws
 
-tellable : (parts : List PlannedOf) → 0 < length parts → length parts ≤ 64 → ArePlanned parts → AreWritable parts → IsTellable (joint_netlist parts)
+tellable : (parts : List PlannedOf) → 0 < length parts → length parts ≤ 64 → ArePlanned parts → AreTellable parts → IsTellable (joint_netlist parts)
 tellable parts some few are can = record { model = record { word = refl; allowed = refl }; names = names; each_node = nodes }
   where
-    small : free_number_under 112 (joint_inputs parts) < 2 ^ 64
-    small = let most = free_from (joint_inputs parts) (length (joint_inputs parts)) 0 in omega (arith, most, few_inputs parts few are can)
+    small : free_number_under 112 (taken_names parts) < 2 ^ 64
+    small =
+        let most = free_from (taken_names parts) (length (taken_names parts)) 0 in
+        omega (arith, most, few_inputs parts few are can, length-with_control (joint_inputs parts) (joint_clock parts))
 
     names : All IsWordName (joint_netlist parts).names
     names =
         All-append IsWordName (joint_inputs parts) _ (inputs_word [] parts can (All-nil IsWordName))
-        (All-append IsWordName (own_texts (joint_prefix (joint_inputs parts)) latch_names 0 parts) _
-        (own_word (free_number_under 112 (joint_inputs parts)) 0 latch_names parts small (omega arith)
-        (λ p w. All-take IsWordName (length p.net.circuit.latches) (drop p.net.circuit.inputs p.net.names) (All-drop IsWordName p.net.circuit.inputs p.net.names (good_names p.net.names w.names))) can)
-        (All-append IsWordName (own_texts (joint_prefix (joint_inputs parts)) node_names 0 parts) _
-        (own_word (free_number_under 112 (joint_inputs parts)) 0 node_names parts small (omega arith)
-        (λ p w. All-drop IsWordName (p.net.circuit.inputs + length p.net.circuit.latches) p.net.names (good_names p.net.names w.names)) can)
-        (tree_word (free_number_under 112 (joint_inputs parts)) (tree_gates (length parts)) small (omega arith))))
+        (All-append IsWordName (own_texts (joint_prefix (taken_names parts)) latch_names 0 parts) _
+        (own_word (free_number_under 112 (taken_names parts)) 0 latch_names parts small (omega arith)
+        (λ p w. All-take IsWordName (length p.net.circuit.latches) (drop p.net.circuit.inputs p.net.names) (All-drop IsWordName p.net.circuit.inputs p.net.names w.names)) can)
+        (All-append IsWordName (own_texts (joint_prefix (taken_names parts)) node_names 0 parts) _
+        (own_word (free_number_under 112 (taken_names parts)) 0 node_names parts small (omega arith)
+        (λ p w. All-drop IsWordName (p.net.circuit.inputs + length p.net.circuit.latches) p.net.names w.names) can)
+        (tree_word (free_number_under 112 (taken_names parts)) (tree_gates (length parts)) small (omega arith))))
 
     nodes : All IsToldNode (joint parts).circuit.nodes
     nodes =
@@ -227,26 +225,37 @@ tellable parts some few are can = record { model = record { word = refl; allowed
         (parts_told ins (length ins) held (length ins + held + (driven + tree_gates (length parts))) 0 0 parts can)
         (tree_told of_gates gates)
 
+-- the clock of the joint is that of a part
+told_clock : (parts : List PlannedOf) → AreTellable parts → IsToldClock (joint_clock parts)
+told_clock [] can = tt
+told_clock (p ∷ parts) can = by p.clock can.0.clock (told_clock parts can.1)
+  where
+    by : (clock : Option Clock) → IsToldClock clock → IsToldClock (joint_clock parts) → IsToldClock (clock_or clock (joint_clock parts))
+    by None own later = later
+    by (Some clock) own later = own
+
 pub joint_text_tells : JointTextTells
 joint_text_tells parts some few are can =
-    tells (joint_netlist parts) [] (join_is_built parts some are (few_nets parts some few are can)) (tellable parts some few are can) (All-nil _)
+    registers-told (joint_clock parts) (joint_netlist parts) [] (join_is_built parts some are (few_nets parts some few are can)) (tellable parts some few are can)
+    (told_clock parts can) (All-nil _)
+
+-- a joint of which its text tells something
+tells_joint : (Secure : JointOf → Type 0) (parts : List PlannedOf) → 0 < length parts → length parts ≤ 64 → ArePlanned parts → AreTellable parts
+    → Secure (joint parts) → TellsJoint (joint_bytes parts) parts Secure
+tells_joint Secure parts some few are can secure =
+    let tells = joint_text_tells parts some few are can in
+    record { tells = tells; is_joint = joined parts some are; circuit = ap (λ net. net.circuit) tells.told.same; secure = secure }
 
 pub joint_text_is_cell_secure : JointTextIsCellSecure
-joint_text_is_cell_secure M parts some few are can secure =
-    let told = joint_text_tells parts some few are can in
-    record {
-      tells = told;
-      is_joint = joined parts some are;
-      circuit = ap (λ net. net.circuit) told.same;
-      secure = join_is_cell_secure M parts some are secure;
-    }
+joint_text_is_cell_secure M parts some few are can secure = tells_joint (IsJointCellSecure M) parts some few are can (join_is_cell_secure M parts some are secure)
 
 pub joint_text_is_fault_secure : JointTextIsFaultSecure
-joint_text_is_fault_secure M parts some few are can secure =
-    let told = joint_text_tells parts some few are can in
-    record {
-      tells = told;
-      is_joint = joined parts some are;
-      circuit = ap (λ net. net.circuit) told.same;
-      secure = join_is_fault_secure M parts some are secure;
-    }
+joint_text_is_fault_secure M parts some few are can secure = tells_joint (IsJointFaultSecure M) parts some few are can (join_is_fault_secure M parts some are secure)
+
+pub joint_text_is_secure_for_sources : JointTextIsSecureForSources
+joint_text_is_secure_for_sources source parts some few are can secure =
+    tells_joint (IsCellSecureForSources source) parts some few are can (join_is_secure_for_sources source parts some are secure)
+
+pub joint_text_is_fault_secure_for_sources : JointTextIsFaultSecureForSources
+joint_text_is_fault_secure_for_sources source parts some few are can secure =
+    tells_joint (IsFaultSecureForSources source) parts some few are can (join_is_fault_secure_for_sources source parts some are secure)

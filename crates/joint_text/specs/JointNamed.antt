@@ -8,7 +8,7 @@ use Rattle.code_checkers.specs.CheckerNodes.{net_behind}
 use Rattle.code_checkers.specs.Nodes.{cover_of, reads_of}
 use Rattle.code_checkers.specs.declared.gate.CheckGate.{CheckGate}
 use Rattle.code_checkers.specs.declared.gate.CheckGate.TheVariants as gate
-use Rattle.module_join.specs.JointNet.{PlannedOf, input_names, with_texts, joint_inputs, joint_prefix, own_text, tree_text}
+use Rattle.module_join.specs.JointNet.{PlannedOf, input_names, with_texts, joint_inputs, taken_names, joint_prefix, own_text, tree_text}
 use Rattle.module_join.specs.TreeNodes.{tree_made}
 
 -- what the names of part number i begin with: the prefix, the number and `_`
@@ -72,7 +72,7 @@ named_gates names (name ∷ own) (g ∷ gates) = named_gate names name g ++ name
 
 -- the prefix of the joint's names, and the label of each part
 abbrev pub prefix_of : List PlannedOf → List ℕ
-prefix_of parts = joint_prefix (joint_inputs parts)
+prefix_of parts = joint_prefix (taken_names parts)
 
 abbrev pub labels_of : List PlannedOf → List (List ℕ)
 labels_of parts = map (part_label (prefix_of parts)) (range_with_len 0 (length parts))

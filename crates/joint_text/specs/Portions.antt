@@ -2,7 +2,7 @@
 use Rattle.std.specs.Prelude.{ℕ, List, [], ◌∷◌, ◌++◌, map, codes}
 use Rattle.std.specs.List.{flat_map}
 use Rattle.tsc_text.specs.Written.{text_of}
-use Rattle.blif_write.specs.Layout.{model_line, inputs_line, outputs_line, latch_line, node_lines, end_line}
+use Rattle.blif_write.specs.Layout.{model_line, inputs_line, outputs_line, clocked_latch_line, node_lines, end_line}
 use Rattle.module_join.specs.JointNet.{PlannedOf, joint_inputs}
 use Rattle.joint_text.specs.JointNamed.{latches_under, nodes_under, tree_named, output_names}
 
@@ -10,9 +10,9 @@ use Rattle.joint_text.specs.JointNamed.{latches_under, nodes_under, tree_named, 
 abbrev pub head_text : List PlannedOf → List ℕ
 head_text parts = text_of (model_line (codes "joint") ∷ inputs_line (joint_inputs parts) ∷ outputs_line (output_names parts) ∷ [])
 
--- the lines of the latches of parts, the first of which has number i
-abbrev pub latches_text : List ℕ → ℕ → List PlannedOf → List ℕ
-latches_text prefix i parts = text_of (map latch_line (latches_under prefix i parts))
+-- the lines of the latches of parts, the first of which has number i, with the words of a clock
+abbrev pub latches_text : List (List ℕ) → List ℕ → ℕ → List PlannedOf → List ℕ
+latches_text clock prefix i parts = text_of (map (clocked_latch_line clock) (latches_under prefix i parts))
 
 -- the lines of their nodes
 abbrev pub nodes_text : List ℕ → ℕ → List PlannedOf → List ℕ

@@ -16,9 +16,10 @@ use crate::joint::Ends;
 use crate::names::{names_of_rails, names_shown};
 use crate::tree::{NamedTree, named_tree, push_tree};
 use crate::words::{end_line, push_table, push_word};
+use module_join::Part;
 use std::alloc::{AllocError, Global};
 use tsc_io::{Bytes, Items, TextKey};
-use tsc_net::{NameTable, NameTexts, PlannedNetlist};
+use tsc_net::{NameTable, NameTexts};
 
 /// What is printed before the lines of parts with these labels, and after them, where these are the names of the joint's inputs and
 /// the prefix of its other names.
@@ -31,7 +32,7 @@ pub fn ends_of(
     inputs: &NameTable,
     prefix: &[u8],
     labels: &NameTexts,
-    parts: &Items<PlannedNetlist>,
+    parts: &Items<Part>,
 ) -> Result<Ends, AllocError>
     requires joinable { AreJoinable (parts_as parts.now) }
     requires inputs { inputs.now ≡ joint_inputs (parts_as parts.now) }
@@ -51,7 +52,7 @@ fn tree_over(
     alloc: Global,
     prefix: &[u8],
     labels: &NameTexts,
-    parts: &Items<PlannedNetlist>,
+    parts: &Items<Part>,
 ) -> Result<NamedTree, AllocError>
     requires joinable { AreJoinable (parts_as parts.now) }
     requires prefix { prefix.now ≡ prefix_of (parts_as parts.now) }
@@ -68,7 +69,7 @@ fn head_over(
     alloc: Global,
     inputs: &NameTable,
     labels: &NameTexts,
-    parts: &Items<PlannedNetlist>,
+    parts: &Items<Part>,
     tree: &NamedTree,
 ) -> Result<Bytes, AllocError>
     requires joinable { AreJoinable (parts_as parts.now) }

@@ -1,8 +1,9 @@
 //! A joint of parts, ready to be printed.
 
+use module_join::Part;
 use std::marker::Model;
 use tsc_io::{Bytes, Items};
-use tsc_net::{NameTexts, PlannedNetlist};
+use tsc_net::NameTexts;
 
 /// What is printed before the lines of the parts, and after them.
 #[derive(Drop)]
@@ -17,7 +18,7 @@ pub(crate) struct Ends {
 /// has their labels, and the lines around those of the parts. Contracts see it as the list of the parts.
 #[derive(Drop)]
 pub struct Joint {
-    pub(crate) parts: Items<PlannedNetlist>,
+    pub(crate) parts: Items<Part>,
     pub(crate) labels: NameTexts,
     pub(crate) ends: Ends,
 }

@@ -1,15 +1,15 @@
 //! The names that the joint shows, and those of the parts' rails.
 ghost use Rattle.std.specs.Prelude.{◌≡◌, ◌++◌, [], IfOk, OnOk};
-ghost use Rattle.fault_secure.specs.CodePlan.{IsPlanOf};
 ghost use Rattle.module_join.specs.JointNet.{with_texts};
 ghost use Rattle.module_join.specs.JoinParts.{parts_as, planned_as};
-ghost use Rattle.module_join.specs.JoinLaws.{ArePlanned};
+ghost use Rattle.module_join.specs.JoinLaws.{ArePlanned, IsShownBy};
 ghost use Rattle.joint_text.specs.JointNamed.{labels_of, prefix_of, rail_names, rail_pair, shown_from, shown_names};
 
 use crate::labels::net_text;
+use module_join::Part;
 use std::alloc::{AllocError, Global};
 use tsc_io::{Items, TextKey};
-use tsc_net::{NameTable, NameTexts, Plan, PlannedNetlist};
+use tsc_net::{NameTable, NameTexts, Plan};
 
 /// The names of the parts' outputs without their rails, each once, in the order in which they were first seen.
 ///
@@ -20,7 +20,7 @@ pub fn names_shown(
     alloc: Global,
     key: TextKey,
     labels: &NameTexts,
-    parts: &Items<PlannedNetlist>,
+    parts: &Items<Part>,
 ) -> Result<NameTable, AllocError>
     requires planned { ArePlanned (parts_as parts.now) }
     requires labels { labels.now ≡ labels_of (parts_as parts.now) }
@@ -43,9 +43,9 @@ fn add_shown(
     alloc: Global,
     names: &mut NameTable,
     label: &[u8],
-    part: &PlannedNetlist,
+    part: &Part,
 ) -> Result<(), AllocError>
-    requires planned { IsPlanOf part.now.net.circuit part.now.plan }
+    requires planned { IsShownBy part.now.net.circuit part.now.plan }
     ensures added { OnOk result (names.new ≡ with_texts names.old (shown_names label.now (planned_as part.now))) }
 {
     // What the netlist keeps is known from here on.
@@ -72,7 +72,7 @@ fn own_outputs(plan: &Plan) -> usize
 pub fn names_of_rails(
     alloc: Global,
     labels: &NameTexts,
-    parts: &Items<PlannedNetlist>,
+    parts: &Items<Part>,
 ) -> Result<NameTexts, AllocError>
     requires planned { ArePlanned (parts_as parts.now) }
     requires labels { labels.now ≡ labels_of (parts_as parts.now) }
@@ -95,9 +95,9 @@ fn add_rails(
     alloc: Global,
     names: &mut NameTexts,
     label: &[u8],
-    part: &PlannedNetlist,
+    part: &Part,
 ) -> Result<(), AllocError>
-    requires planned { IsPlanOf part.now.net.circuit part.now.plan }
+    requires planned { IsShownBy part.now.net.circuit part.now.plan }
     ensures added { OnOk result (names.new ≡ names.old ++ rail_pair label.now (planned_as part.now)) }
 {
     names.push(net_text(alloc, label, &part.net, part.plan.rail1)?)?;

@@ -1,50 +1,56 @@
 //! The lines of a part's latches and nodes.
 ghost use Rattle.std.specs.Prelude.{◌≡◌, ◌<◌, ◌∷◌, ◌++◌, map, length};
 ghost use Rattle.std.specs.List.{flat_map};
+ghost use Rattle.std.specs.Option.{option_copied};
 ghost use Rattle.buffered_sink.specs.Output.{Prints, output};
 ghost use Rattle.fault_secure.specs.Circuit.{nets};
 ghost use Rattle.tsc_net.specs.Names.{text_at};
 ghost use Rattle.tsc_net.specs.NetlistOf.{named_of, names_of};
 ghost use Rattle.tsc_net.specs.PlanView.{net_numbers};
 ghost use Rattle.tsc_text.specs.Written.{line_text, text_of};
-ghost use Rattle.blif_write.specs.Layout.{latch_line, names_line, node_lines};
+ghost use Rattle.blif_write.specs.Layout.{clocked_latch_line, names_line, node_lines};
 ghost use Rattle.blif_write.specs.NetLines.{AreNets, named_latch, named_node};
+ghost use Rattle.blif_write.specs.RegisterText.{clock_words};
 ghost use Rattle.blif_write.specs.Steps.{line_end as end_of_line};
 ghost use Rattle.joint_text.specs.JointNamed.{names_under, under};
 ghost use Rattle.joint_text.specs.LineWords.{latch_end, spaced};
 
+use crate::clocks::{control_text, type_text};
 use crate::cover_rows::print_cover;
 use crate::labels::label_before;
 use crate::words::line_end;
+use blif_read::Clock;
 use buffered_sink::{Page, Piece, print, print_all};
 use tsc_io::{Sink, WriteFault};
 use tsc_net::{NetId, Netlist};
 
-/// Prints the lines of the latches of a part with this label.
+/// Prints the lines of the latches of a part with this label, with the words of a clock.
 pub fn print_part_latches<K: Sink>(
     sink: &mut K,
     page: &mut Page,
+    clock: Option<&Clock>,
     label: &[u8],
     net: &Netlist,
 ) -> Result<(), WriteFault>
-    ensures printed { Prints result (output (K.written sink.old) (K.faults sink.old) page.old) (output (K.written sink.new) (K.faults sink.new) page.new) (text_of (map latch_line (named_of (under label.now net.now)).latches)) }
+    ensures printed { Prints result (output (K.written sink.old) (K.faults sink.old) page.old) (output (K.written sink.new) (K.faults sink.new) page.new) (text_of (map (clocked_latch_line (clock_words (option_copied clock.entry))) (named_of (under label.now net.now)).latches)) }
 {
     for place in 0..net.latches() {
-        print_latch(sink, page, label, net, place)?;
+        print_latch(sink, page, clock, label, net, place)?;
     }
     Ok(())
 }
 
-/// Prints the line of the latch at a place.
+/// Prints the line of the latch at a place, with the words of a clock.
 fn print_latch<'a, K: Sink>(
     sink: &mut K,
     page: &mut Page,
+    clock: Option<&'a Clock>,
     label: &'a [u8],
     net: &'a Netlist,
     place: usize,
 ) -> Result<(), WriteFault>
     requires within { place < length net.now.circuit.latches }
-    ensures printed { Prints result (output (K.written sink.old) (K.faults sink.old) page.old) (output (K.written sink.new) (K.faults sink.new) page.new) (line_text (latch_line (named_latch (under label.now net.now) place))) }
+    ensures printed { Prints result (output (K.written sink.old) (K.faults sink.old) page.old) (output (K.written sink.new) (K.faults sink.new) page.new) (line_text (clocked_latch_line (clock_words (option_copied clock.entry)) (named_latch (under label.now net.now) place))) }
 {
     // What the netlist keeps is known from here on.
     let _nets = net.nets();
@@ -56,6 +62,8 @@ fn print_latch<'a, K: Sink>(
         Piece::Text(b" "),
         Piece::Text(label_before(label, net, latch.out)),
         Piece::Text(net.name(latch.out)),
+        Piece::Text(type_text(clock)),
+        Piece::Text(control_text(clock)),
         Piece::Text(latch_end(latch.init)),
     ];
     print_all(sink, page, &line)

@@ -1,6 +1,8 @@
 //! Printing the text of a joint.
 ghost use Rattle.std.specs.Prelude.{◌≡◌};
+ghost use Rattle.std.specs.Option.{option_copied};
 ghost use Rattle.buffered_sink.specs.Output.{Prints, output};
+ghost use Rattle.blif_write.specs.RegisterText.{clock_words};
 ghost use Rattle.module_join.specs.JoinParts.{parts_as};
 ghost use Rattle.joint_text.specs.JointNamed.{labels_of, prefix_of};
 ghost use Rattle.joint_text.specs.JointText.{joint_bytes};
@@ -9,9 +11,11 @@ ghost use Rattle.joint_text.specs.Portions.{head_text, latches_text, nodes_text,
 
 use crate::joint::{Ends, Joint};
 use crate::part_lines::{print_part_latches, print_part_nodes};
+use blif_read::Clock;
 use buffered_sink::{Page, print};
+use module_join::{Part, joint_clock};
 use tsc_io::{Items, Sink, WriteFault};
-use tsc_net::{NameTexts, PlannedNetlist};
+use tsc_net::NameTexts;
 
 /// Prints the text of the joint netlist of the parts, node by node, in time linear in its length. It takes no memory.
 ///
@@ -30,7 +34,7 @@ fn print_parts<K: Sink>(
     page: &mut Page,
     ends: &Ends,
     labels: &NameTexts,
-    parts: &Items<PlannedNetlist>,
+    parts: &Items<Part>,
 ) -> Result<(), WriteFault>
     requires joinable { AreJoinable (parts_as parts.now) }
     requires labels { labels.now ≡ labels_of (parts_as parts.now) }
@@ -39,24 +43,25 @@ fn print_parts<K: Sink>(
     ensures printed { Prints result (output (K.written sink.old) (K.faults sink.old) page.old) (output (K.written sink.new) (K.faults sink.new) page.new) (joint_bytes (parts_as parts.now)) }
 {
     print(sink, page, ends.head.as_slice())?;
-    print_latches(sink, page, labels, parts)?;
+    print_latches(sink, page, joint_clock(parts.as_slice()), labels, parts)?;
     print_nodes(sink, page, labels, parts)?;
     print(sink, page, ends.tail.as_slice())
 }
 
-/// Prints the lines of the latches of the parts.
+/// Prints the lines of the latches of the parts, with the words of a clock.
 fn print_latches<K: Sink>(
     sink: &mut K,
     page: &mut Page,
+    clock: Option<&Clock>,
     labels: &NameTexts,
-    parts: &Items<PlannedNetlist>,
+    parts: &Items<Part>,
 ) -> Result<(), WriteFault>
     requires labels { labels.now ≡ labels_of (parts_as parts.now) }
-    ensures printed { Prints result (output (K.written sink.old) (K.faults sink.old) page.old) (output (K.written sink.new) (K.faults sink.new) page.new) (latches_text (prefix_of (parts_as parts.now)) 0 (parts_as parts.now)) }
+    ensures printed { Prints result (output (K.written sink.old) (K.faults sink.old) page.old) (output (K.written sink.new) (K.faults sink.new) page.new) (latches_text (clock_words (option_copied clock.entry)) (prefix_of (parts_as parts.now)) 0 (parts_as parts.now)) }
 {
     for place in 0..parts.len() {
         let label = labels.get(place).as_slice();
-        print_part_latches(sink, page, label, &parts.get(place).net)?;
+        print_part_latches(sink, page, clock, label, &parts.get(place).net)?;
     }
     Ok(())
 }
@@ -66,7 +71,7 @@ fn print_nodes<K: Sink>(
     sink: &mut K,
     page: &mut Page,
     labels: &NameTexts,
-    parts: &Items<PlannedNetlist>,
+    parts: &Items<Part>,
 ) -> Result<(), WriteFault>
     requires labels { labels.now ≡ labels_of (parts_as parts.now) }
     ensures printed { Prints result (output (K.written sink.old) (K.faults sink.old) page.old) (output (K.written sink.new) (K.faults sink.new) page.new) (nodes_text (prefix_of (parts_as parts.now)) 0 (parts_as parts.now)) }

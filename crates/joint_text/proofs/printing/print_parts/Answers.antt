@@ -1,6 +1,7 @@
 use Rattle.std.proofs.Common.{◌≡◌, ℕ, List, ◌++◌, refl, sym, ap, ◌∙◌}
 use Rattle.buffered_sink.proofs.PrintLemmas.{begin, cut, ends, exits, more}
-use Rattle.module_join.specs.JointNet.{PlannedOf}
+use Rattle.blif_write.specs.RegisterText.{clock_words}
+use Rattle.module_join.specs.JointNet.{PlannedOf, joint_clock}
 use Rattle.module_join.specs.JoinParts.{parts_as}
 use Rattle.joint_text.specs.JointText.{joint_bytes}
 use Rattle.joint_text.specs.JointNamed.{prefix_of}
@@ -14,7 +15,7 @@ abbrev behind_latches : List PlannedOf → List ℕ
 behind_latches parts = nodes_text (prefix_of parts) 0 parts ++ tail_text parts
 
 abbrev behind_head : List PlannedOf → List ℕ
-behind_head parts = latches_text (prefix_of parts) 0 parts ++ behind_latches parts
+behind_head parts = latches_text (clock_words (joint_clock parts)) (prefix_of parts) 0 parts ++ behind_latches parts
 
 first : (parts : List PlannedOf) (head : List ℕ) → AreJoinable parts → head ≡ head_text parts → joint_bytes parts ≡ head ++ behind_head parts
 first parts head are is = joint_portions parts are ∙ ap (λ (h : List ℕ). h ++ behind_head parts) (sym is)

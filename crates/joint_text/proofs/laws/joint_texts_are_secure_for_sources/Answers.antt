@@ -1,0 +1,5 @@
+use Rattle.joint_text.proofs.Tellable.{joint_text_is_secure_for_sources}
+use Rattle.joint_text.proofs.laws.joint_texts_are_secure_for_sources.Goals as goal
+
+pub returns : goal.returns
+returns c = record { secure = joint_text_is_secure_for_sources }
