@@ -5,7 +5,6 @@ use Rattle.std.proofs.lemmas.List.{length-map, map-append}
 use Rattle.std.proofs.lemmas.List.Concat.{flat_map-append}
 use Rattle.std.proofs.lemmas.List.Elements.{All-nil}
 use Rattle.std.proofs.Math.Seq.{take-append_seam}
-use Rattle.fault_secure.specs.Circuit.{nets}
 use Rattle.tsc_net.specs.Named.{Named, NamedLatch, NamedNode}
 use Rattle.tsc_net.specs.Names.{text_at, IsNumbering}
 use Rattle.tsc_net.specs.NetlistOf.{named_of, names_of, named_latches, named_nodes}

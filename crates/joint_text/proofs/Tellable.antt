@@ -29,7 +29,7 @@ use Rattle.joint_laws.specs.Joint.{JointOf}
 use Rattle.joint_laws.specs.JointSecure.{IsJointCellSecure, IsJointFaultSecure}
 use Rattle.register_joints.specs.SourcesSecure.{IsCellSecureForSources, IsFaultSecureForSources}
 use Rattle.joint_laws.specs.JointCircuit.{latches_in, nodes_in, parts_from, nodes_of, rails_of}
-use Rattle.module_join.specs.JointNet.{PlannedOf, input_names, with_texts, inputs_from, joint_inputs, joint_clock, clock_or, with_control, taken_names, joint_prefix, own_text, tree_text, latch_names, node_names, own_texts, member, joint, joint_netlist}
+use Rattle.module_join.specs.JointNet.{PlannedOf, input_names, with_texts, inputs_from, joint_inputs, joint_clock, clock_or, taken_names, joint_prefix, own_text, tree_text, latch_names, node_names, own_texts, member, joint, joint_netlist}
 use Rattle.module_join.specs.JoinLaws.{ArePlanned}
 use Rattle.module_join.specs.TreeNodes.{tree_made}
 use Rattle.module_join.proofs.Joined.{joined, join_is_cell_secure, join_is_fault_secure, join_is_secure_for_sources, join_is_fault_secure_for_sources}

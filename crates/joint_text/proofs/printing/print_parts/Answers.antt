@@ -1,6 +1,8 @@
-use Rattle.std.proofs.Common.{◌≡◌, ℕ, List, ◌++◌, refl, sym, ap, ◌∙◌}
+use Rattle.std.proofs.Common.{◌≡◌, ℕ, List, ◌++◌, Option, refl, sym, ap, ◌∙◌}
+use Rattle.blif_read.specs.declared.clocks.Clock.{Clock}
 use Rattle.buffered_sink.proofs.PrintLemmas.{begin, cut, ends, exits, more}
 use Rattle.blif_write.specs.RegisterText.{clock_words}
+use Rattle.module_join.specs.declared.part.Part.{Part}
 use Rattle.module_join.specs.JointNet.{PlannedOf, joint_clock}
 use Rattle.module_join.specs.JoinParts.{parts_as}
 use Rattle.joint_text.specs.JointText.{joint_bytes}
@@ -20,6 +22,11 @@ behind_head parts = latches_text (clock_words (joint_clock parts)) (prefix_of pa
 first : (parts : List PlannedOf) (head : List ℕ) → AreJoinable parts → head ≡ head_text parts → joint_bytes parts ≡ head ++ behind_head parts
 first parts head are is = joint_portions parts are ∙ ap (λ (h : List ℕ). h ++ behind_head parts) (sym is)
 
+-- the latches have the clock of the joint
+clocked : (parts : List PlannedOf) (clock : Option Clock) → clock ≡ joint_clock parts
+    → behind_head parts ≡ latches_text (clock_words clock) (prefix_of parts) 0 parts ++ behind_latches parts
+clocked parts clock is = ap (λ (k : Option Clock). latches_text (clock_words k) (prefix_of parts) 0 parts ++ behind_latches parts) (sym is)
+
 pub returns-in_err-print : goal.returns-in_err-print
 returns-in_err-print g c =
     let parts = parts_as c.args.parts.now in
@@ -35,7 +42,8 @@ returns-in_err-print_latches g c =
       printed = exits _ c.from_residual-in_err-print_latches.result c.from_residual-in_err-print_latches.ensures.1
           (cut (behind_latches parts)
           (more (behind_head parts) (begin _ _) c.in_ok-print.ensures.printed (first parts _ c.requires.joinable (c.as_slice.ensures.whole ∙ c.requires.head)))
-          c.in_err-print_latches.ensures.printed refl);
+          c.in_err-print_latches.ensures.printed
+          (clocked parts _ (c.joint_clock.ensures.clock ∙ ap (λ (ps : List Part). joint_clock (parts_as ps)) c.as_slice-2.ensures.whole)));
     }
 
 pub returns-in_err-print_nodes : goal.returns-in_err-print_nodes
@@ -46,7 +54,8 @@ returns-in_err-print_nodes g c =
           (cut (tail_text parts)
           (more (behind_latches parts)
           (more (behind_head parts) (begin _ _) c.in_ok-print.ensures.printed (first parts _ c.requires.joinable (c.as_slice.ensures.whole ∙ c.requires.head)))
-          c.in_ok-print_latches.ensures.printed refl)
+          c.in_ok-print_latches.ensures.printed
+          (clocked parts _ (c.joint_clock.ensures.clock ∙ ap (λ (ps : List Part). joint_clock (parts_as ps)) c.as_slice-2.ensures.whole)))
           c.in_err-print_nodes.ensures.printed refl);
     }
 
@@ -54,12 +63,13 @@ pub returns : goal.returns
 returns g c =
     let parts = parts_as c.args.parts.now in
     record {
-      printed = ends c.print-2.result _ c.as_slice-2.result.now
-          (more c.as_slice-2.result.now
+      printed = ends c.print-2.result _ c.as_slice-3.result.now
+          (more c.as_slice-3.result.now
           (more (behind_latches parts)
           (more (behind_head parts) (begin _ _) c.in_ok-print.ensures.printed (first parts _ c.requires.joinable (c.as_slice.ensures.whole ∙ c.requires.head)))
-          c.in_ok-print_latches.ensures.printed refl)
+          c.in_ok-print_latches.ensures.printed
+          (clocked parts _ (c.joint_clock.ensures.clock ∙ ap (λ (ps : List Part). joint_clock (parts_as ps)) c.as_slice-2.ensures.whole)))
           c.in_ok-print_nodes.ensures.printed
-          (ap (λ (t : List ℕ). nodes_text (prefix_of parts) 0 parts ++ t) (sym (c.as_slice-2.ensures.whole ∙ c.requires.tail))))
+          (ap (λ (t : List ℕ). nodes_text (prefix_of parts) 0 parts ++ t) (sym (c.as_slice-3.ensures.whole ∙ c.requires.tail))))
           c.print-2.ensures.printed;
     }
