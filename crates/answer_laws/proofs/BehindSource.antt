@@ -31,7 +31,7 @@ use Rattle.text_sections.specs.Denoted.{behind_source, first_lines, first_net, f
 use Rattle.text_sections.specs.Refused.{behind_machine, first_table_refusal, last_netlist_refusal, left_behind, left_over, lines_refusal, machine_lines_refusal, machine_refusal, netlist_refusal, pla_lines_refusal, pla_refusal, refusal_from, section_refusal, source_refusal}
 use Rattle.text_sections.proofs.BehindLemmas.{allowed_last}
 use Rattle.text_sections.proofs.StateLemmas.{listed_last}
-use Rattle.text_sections.proofs.PartLemmas.{range_is}
+use Rattle.part_reading.proofs.PartLemmas.{range_is}
 use Rattle.answer_laws.proofs.Renumbered.{named_moved, plan_moved, refusal_moved}
 use Rattle.text_sections.proofs.SectionLemmas.{allowed_both, none_behind, none_first, none_later, section_allowed}
 use Rattle.answer_laws.proofs.AnswerLemmas.{some_left}

@@ -1,0 +1,3 @@
+pub mod OneClock
+pub mod PartLemmas
+pub mod PartMade

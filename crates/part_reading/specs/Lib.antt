@@ -1,0 +1,4 @@
+pub mod Parts
+pub mod PartClocks
+pub mod PartRefusal
+pub mod WorkedParts
