@@ -80,12 +80,7 @@ pub fn load_part<const N: usize>(words: &[u64], start: usize, from: usize) -> Si
 }
 
 /// Writes lanes of the row that starts at the word `start`, from the row's word `from` on; the block has sixteen words per row.
-pub fn store_part<const N: usize>(
-    block: &mut [u64],
-    start: usize,
-    from: usize,
-    lanes: Simd<u64, N>,
-)
+pub fn store_part<const N: usize>(block: &mut [u64], start: usize, from: usize, lanes: Simd<u64, N>)
     requires few { from + N ≤ 16 }
     requires start { start % 16 ≡ 0 }
     requires room { start + 16 ≤ length block.old }

@@ -3,14 +3,14 @@
 use crate::runs::{
     Done, NO_FAULTS, Refused, after_run, ends, first_not_done, first_not_refused, joined,
 };
-use crate::texts::{AND2, SAFE_AND2, SAFE_WIRE, TOGGLE};
+use crate::texts::{AND2, DUPLEX_TICKED, SAFE_AND2, SAFE_WIRE, TOGGLE, WATCHED_HELD};
 use std::alloc::{AllocError, Global};
 use std::test::Fail;
 use tsc_io::Bytes;
 use tsc_text::push_number;
 
 /// Netlists and their joint.
-static JOINED: [Done; 6] = [
+static JOINED: [Done; 9] = [
     // The and gate and the wire: an output that is an input stands once, and each net but the inputs has its part's number.
     (
         b"join",
@@ -53,6 +53,27 @@ static JOINED: [Done; 6] = [
         b"# no netlist\n\n",
         b".model joint\n.inputs a b\n.outputs p0_0_y p0_t0 p0_t1\n.names a b p0_0_y\n11 1\n.names a b p0_0_t0_0\n11 1\n.names p0_0_t0_0 p0_0_t0_1\n0 1\n.names p0_0_y p0_0_t0_2\n1 1\n.names p0_0_t0_1 p0_0_t0_3\n1 1\n.names p0_0_t0_2 p0_t0\n1 1\n.names p0_0_t0_3 p0_t1\n1 1\n.end\n",
     ),
+    // A source with registers and a clock, and a network.
+    (
+        b"join",
+        DUPLEX_TICKED,
+        SAFE_AND2,
+        b".model joint\n.inputs clk a b\n.outputs p0_0_y p0_0_z p0_1_y p0_t3 p0_t7\n.latch p0_0_n1 p0_0_p re clk 0\n.latch p0_0_p p0_0_q re clk 1\n.latch p0_0_t0_2 p0_0_t0_0 re clk 0\n.latch p0_0_t0_0 p0_0_t0_1 re clk 1\n.names a p0_0_q p0_0_n1\n11 1\n.names p0_0_p b p0_0_y\n1- 1\n-1 1\n.names p0_0_q p0_0_z\n0 1\n.names a p0_0_t0_1 p0_0_t0_2\n11 1\n.names p0_0_t0_0 b p0_0_t0_3\n1- 1\n-1 1\n.names p0_0_t0_1 p0_0_t0_4\n0 1\n.names p0_0_t0_3 p0_0_t0_5\n0 1\n.names p0_0_t0_4 p0_0_t0_6\n0 1\n.names p0_0_y p0_0_z p0_0_t0_7\n11 1\n.names p0_0_t0_5 p0_0_t0_6 p0_0_t0_8\n11 1\n.names p0_0_t0_7 p0_0_t0_8 p0_0_t0_9\n1- 1\n-1 1\n.names p0_0_t0_9 p0_0_t0_10\n1 1\n.names p0_0_y p0_0_t0_6 p0_0_t0_11\n11 1\n.names p0_0_t0_5 p0_0_z p0_0_t0_12\n11 1\n.names p0_0_t0_11 p0_0_t0_12 p0_0_t0_13\n1- 1\n-1 1\n.names p0_0_t0_13 p0_0_t0_14\n1 1\n.names a b p0_1_y\n11 1\n.names a b p0_1_t0_0\n11 1\n.names p0_1_t0_0 p0_1_t0_1\n0 1\n.names p0_1_y p0_1_t0_2\n1 1\n.names p0_1_t0_1 p0_1_t0_3\n1 1\n.names p0_0_t0_10 p0_1_t0_2 p0_t0\n11 1\n.names p0_0_t0_14 p0_1_t0_3 p0_t1\n11 1\n.names p0_t0 p0_t1 p0_t2\n1- 1\n-1 1\n.names p0_t2 p0_t3\n1 1\n.names p0_0_t0_10 p0_1_t0_3 p0_t4\n11 1\n.names p0_0_t0_14 p0_1_t0_2 p0_t5\n11 1\n.names p0_t4 p0_t5 p0_t6\n1- 1\n-1 1\n.names p0_t6 p0_t7\n1 1\n.end\n",
+    ),
+    // Registers without a clock, and their watch, before others with one: all have that one.
+    (
+        b"join",
+        WATCHED_HELD,
+        DUPLEX_TICKED,
+        b".model joint\n.inputs a clk b\n.outputs p0_0_p p0_0_n p0_1_y p0_1_z p0_t3 p0_t7\n.latch p0_0_n p0_0_p re clk 0\n.latch p0_0_t0_1 p0_0_t0_0 re clk 0\n.latch p0_1_n1 p0_1_p re clk 0\n.latch p0_1_p p0_1_q re clk 1\n.latch p0_1_t0_2 p0_1_t0_0 re clk 0\n.latch p0_1_t0_0 p0_1_t0_1 re clk 1\n.names a p0_0_p p0_0_n\n11 0\n.names a p0_0_t0_0 p0_0_t0_1\n11 0\n.names p0_0_t0_0 p0_0_t0_2\n0 1\n.names p0_0_t0_1 p0_0_t0_3\n0 1\n.names p0_0_t0_0 p0_0_t0_4\n0 1\n.names p0_0_p p0_0_n p0_0_t0_5\n11 1\n.names p0_0_t0_2 p0_0_t0_3 p0_0_t0_6\n11 1\n.names p0_0_t0_5 p0_0_t0_6 p0_0_t0_7\n1- 1\n-1 1\n.names p0_0_t0_7 p0_0_p p0_0_t0_8\n11 1\n.names p0_0_p p0_0_t0_3 p0_0_t0_9\n11 1\n.names p0_0_t0_2 p0_0_n p0_0_t0_10\n11 1\n.names p0_0_t0_9 p0_0_t0_10 p0_0_t0_11\n1- 1\n-1 1\n.names p0_0_t0_11 p0_0_t0_4 p0_0_t0_12\n11 1\n.names p0_0_t0_8 p0_0_t0_12 p0_0_t0_13\n1- 1\n-1 1\n.names p0_0_t0_13 p0_0_t0_14\n1 1\n.names p0_0_t0_7 p0_0_t0_4 p0_0_t0_15\n11 1\n.names p0_0_t0_11 p0_0_p p0_0_t0_16\n11 1\n.names p0_0_t0_15 p0_0_t0_16 p0_0_t0_17\n1- 1\n-1 1\n.names p0_0_t0_17 p0_0_t0_18\n1 1\n.names a p0_1_q p0_1_n1\n11 1\n.names p0_1_p b p0_1_y\n1- 1\n-1 1\n.names p0_1_q p0_1_z\n0 1\n.names a p0_1_t0_1 p0_1_t0_2\n11 1\n.names p0_1_t0_0 b p0_1_t0_3\n1- 1\n-1 1\n.names p0_1_t0_1 p0_1_t0_4\n0 1\n.names p0_1_t0_3 p0_1_t0_5\n0 1\n.names p0_1_t0_4 p0_1_t0_6\n0 1\n.names p0_1_y p0_1_z p0_1_t0_7\n11 1\n.names p0_1_t0_5 p0_1_t0_6 p0_1_t0_8\n11 1\n.names p0_1_t0_7 p0_1_t0_8 p0_1_t0_9\n1- 1\n-1 1\n.names p0_1_t0_9 p0_1_t0_10\n1 1\n.names p0_1_y p0_1_t0_6 p0_1_t0_11\n11 1\n.names p0_1_t0_5 p0_1_z p0_1_t0_12\n11 1\n.names p0_1_t0_11 p0_1_t0_12 p0_1_t0_13\n1- 1\n-1 1\n.names p0_1_t0_13 p0_1_t0_14\n1 1\n.names p0_0_t0_14 p0_1_t0_10 p0_t0\n11 1\n.names p0_0_t0_18 p0_1_t0_14 p0_t1\n11 1\n.names p0_t0 p0_t1 p0_t2\n1- 1\n-1 1\n.names p0_t2 p0_t3\n1 1\n.names p0_0_t0_14 p0_1_t0_14 p0_t4\n11 1\n.names p0_0_t0_18 p0_1_t0_10 p0_t5\n11 1\n.names p0_t4 p0_t5 p0_t6\n1- 1\n-1 1\n.names p0_t6 p0_t7\n1 1\n.end\n",
+    ),
+    // A control that is no net and begins with `p0_`.
+    (
+        b"join",
+        b".model ex\n.inputs a b\n.outputs y z t0_10 t0_14\n#tsc 1 parity\n#tsc group y t0_5\n#tsc group z t0_6\n.latch n1 p re p0_1_n1 0\n.latch p q re p0_1_n1 1\n.latch t0_2 t0_0 re p0_1_n1 0\n.latch t0_0 t0_1 re p0_1_n1 1\n.names a q n1\n11 1\n.names p b y\n1- 1\n-1 1\n.names q z\n0 1\n.names a t0_1 t0_2\n11 1\n.names t0_0 b t0_3\n1- 1\n-1 1\n.names t0_1 t0_4\n0 1\n.names t0_3 t0_5\n0 1\n.names t0_4 t0_6\n0 1\n.names y z t0_7\n11 1\n.names t0_5 t0_6 t0_8\n11 1\n.names t0_7 t0_8 t0_9\n1- 1\n-1 1\n.names t0_9 t0_10\n1 1\n.names y t0_6 t0_11\n11 1\n.names t0_5 z t0_12\n11 1\n.names t0_11 t0_12 t0_13\n1- 1\n-1 1\n.names t0_13 t0_14\n1 1\n.end\n",
+        SAFE_AND2,
+        b".model joint\n.inputs a b\n.outputs p1_0_y p1_0_z p1_1_y p1_t3 p1_t7\n.latch p1_0_n1 p1_0_p re p0_1_n1 0\n.latch p1_0_p p1_0_q re p0_1_n1 1\n.latch p1_0_t0_2 p1_0_t0_0 re p0_1_n1 0\n.latch p1_0_t0_0 p1_0_t0_1 re p0_1_n1 1\n.names a p1_0_q p1_0_n1\n11 1\n.names p1_0_p b p1_0_y\n1- 1\n-1 1\n.names p1_0_q p1_0_z\n0 1\n.names a p1_0_t0_1 p1_0_t0_2\n11 1\n.names p1_0_t0_0 b p1_0_t0_3\n1- 1\n-1 1\n.names p1_0_t0_1 p1_0_t0_4\n0 1\n.names p1_0_t0_3 p1_0_t0_5\n0 1\n.names p1_0_t0_4 p1_0_t0_6\n0 1\n.names p1_0_y p1_0_z p1_0_t0_7\n11 1\n.names p1_0_t0_5 p1_0_t0_6 p1_0_t0_8\n11 1\n.names p1_0_t0_7 p1_0_t0_8 p1_0_t0_9\n1- 1\n-1 1\n.names p1_0_t0_9 p1_0_t0_10\n1 1\n.names p1_0_y p1_0_t0_6 p1_0_t0_11\n11 1\n.names p1_0_t0_5 p1_0_z p1_0_t0_12\n11 1\n.names p1_0_t0_11 p1_0_t0_12 p1_0_t0_13\n1- 1\n-1 1\n.names p1_0_t0_13 p1_0_t0_14\n1 1\n.names a b p1_1_y\n11 1\n.names a b p1_1_t0_0\n11 1\n.names p1_1_t0_0 p1_1_t0_1\n0 1\n.names p1_1_y p1_1_t0_2\n1 1\n.names p1_1_t0_1 p1_1_t0_3\n1 1\n.names p1_0_t0_10 p1_1_t0_2 p1_t0\n11 1\n.names p1_0_t0_14 p1_1_t0_3 p1_t1\n11 1\n.names p1_t0 p1_t1 p1_t2\n1- 1\n-1 1\n.names p1_t2 p1_t3\n1 1\n.names p1_0_t0_10 p1_1_t0_3 p1_t4\n11 1\n.names p1_0_t0_14 p1_1_t0_2 p1_t5\n11 1\n.names p1_t4 p1_t5 p1_t6\n1- 1\n-1 1\n.names p1_t6 p1_t7\n1 1\n.end\n",
+    ),
 ];
 
 #[test]
@@ -62,7 +83,7 @@ fn netlists_are_joined(rt: HostRuntime) -> Result<(), Fail> {
 }
 
 /// What is refused, in order.
-static REFUSED: [Refused; 11] = [
+static REFUSED: [Refused; 16] = [
     // No line: one netlist without lines.
     (b"join", b"", b"", 3, b"tsc: no outputs\n"),
     // A further end line is a netlist without lines, and so is a plan line.
@@ -108,6 +129,46 @@ static REFUSED: [Refused; 11] = [
         SAFE_AND2,
         3,
         b"tsc: no plan\n",
+    ),
+    // Another edge than that of the first netlist: the line of its first latch.
+    (
+        b"join",
+        DUPLEX_TICKED,
+        b".model k\n.inputs a\n.outputs p n t0_14 t0_18\n#tsc 1 parity\n#tsc group p t0_2\n#tsc group n t0_3\n#tsc watch p t0_4\n.latch n p fe clk 0\n.latch t0_1 t0_0 fe clk 0\n.names a p n\n11 0\n.names a t0_0 t0_1\n11 0\n.names t0_0 t0_2\n0 1\n.names t0_1 t0_3\n0 1\n.names t0_0 t0_4\n0 1\n.names p n t0_5\n11 1\n.names t0_2 t0_3 t0_6\n11 1\n.names t0_5 t0_6 t0_7\n1- 1\n-1 1\n.names t0_7 p t0_8\n11 1\n.names p t0_3 t0_9\n11 1\n.names t0_2 n t0_10\n11 1\n.names t0_9 t0_10 t0_11\n1- 1\n-1 1\n.names t0_11 t0_4 t0_12\n11 1\n.names t0_8 t0_12 t0_13\n1- 1\n-1 1\n.names t0_13 t0_14\n1 1\n.names t0_7 t0_4 t0_15\n11 1\n.names t0_11 p t0_16\n11 1\n.names t0_15 t0_16 t0_17\n1- 1\n-1 1\n.names t0_17 t0_18\n1 1\n.end\n",
+        3,
+        b"tsc: line 55: latch clock\n",
+    ),
+    // Another control.
+    (
+        b"join",
+        DUPLEX_TICKED,
+        b".inputs a\n.outputs p r s\n#tsc 1 parity\n#tsc group p c\n#tsc watch p c\n.latch a p re c2 0\n.names a c\n0 1\n.names p r\n1 1\n.names c s\n1 1\n.end\n",
+        3,
+        b"tsc: line 53: latch clock\n",
+    ),
+    // Listed states, and latches that are transparent.
+    (
+        b"join",
+        b".inputs x\n.outputs y r1 r2\n#tsc 2 berger\n#tsc check p\n#tsc state 01\n.latch e s ah x2 0\n.latch f u ah x2 1\n.names y\n.names p\n1\n.names e\n.names f\n1\n.names y p e f r1\n1-1- 1\n-1-1 1\n.names y p e f r2\n1--1 1\n-11- 1\n.end\n",
+        SAFE_AND2,
+        3,
+        b"tsc: line 6: latch clock\n",
+    ),
+    // A control that a latch reads.
+    (
+        b"join",
+        b".inputs a\n.outputs p r s\n#tsc 1 parity\n#tsc group p c\n#tsc watch p c\n.latch a p re a 0\n.names a c\n0 1\n.names p r\n1 1\n.names c s\n1 1\n.end\n",
+        SAFE_AND2,
+        3,
+        b"tsc: line 6: latch clock\n",
+    ),
+    // Listed states, and one latch of two with a clock.
+    (
+        b"join",
+        b".inputs x\n.outputs y r1 r2\n#tsc 2 berger\n#tsc check p\n#tsc state 01\n.latch e s 0\n.latch f u re k 1\n.names y\n.names p\n1\n.names e\n.names f\n1\n.names y p e f r1\n1-1- 1\n-1-1 1\n.names y p e f r2\n1--1 1\n-11- 1\n.end\n",
+        SAFE_AND2,
+        3,
+        b"tsc: line 7: latch clock\n",
     ),
     (b"join join", SAFE_AND2, b"", 2, USAGE),
     (b"Join", SAFE_AND2, b"", 2, USAGE),

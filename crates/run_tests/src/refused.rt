@@ -808,7 +808,7 @@ fn machines_have_a_bound(rt: HostRuntime) -> Result<(), Fail> {
 }
 
 /// Netlists with registers whose plan lists no states.
-static LISTLESS: [Refused; 16] = [
+static LISTLESS: [Refused; 15] = [
     (
         b"faults",
         b".inputs a\n.outputs p r s\n#tsc 1 parity\n#tsc group p c\n#tsc watch p\n.latch a p 0\n.names a c\n0 1\n.names p r\n1 1\n.names c s\n1 1\n.end\n",
@@ -906,13 +906,6 @@ static LISTLESS: [Refused; 16] = [
         b"",
         3,
         b"tsc: line 5: latch clock\n",
-    ),
-    (
-        b"join",
-        b".inputs a\n.outputs p r s\n#tsc 1 parity\n#tsc group p c\n.latch a p 0\n.names a c\n0 1\n.names p r\n1 1\n.names c s\n1 1\n.end\n",
-        b"",
-        3,
-        b"tsc: line 3: plan shape\n",
     ),
     // Two clocks: no command takes it.
     (

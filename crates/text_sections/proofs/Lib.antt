@@ -6,7 +6,6 @@ pub mod OutputLemmas
 pub mod OutputsApart
 pub mod MachineLemmas
 pub mod TableLemmas
-pub mod PartLemmas
 pub mod StopLemmas
 pub mod AnyPlans
 pub mod StateLemmas

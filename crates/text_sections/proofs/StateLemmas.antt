@@ -41,13 +41,6 @@ module _ (lines : List TextLine) (from : ℕ) where
 
 module _ (lines : List TextLine) (from : ℕ) where
   -- a section
-  pub section_listed : netlist_section_refusal lines from ≡ None → refusal_from Netlist lines from ≡ None
-  section_listed e = by (lacks_states lines from) e
-    where
-      by : (b : Bool) → (if b then Some NoStates else refusal_from Netlist lines from) ≡ None → refusal_from Netlist lines from ≡ None
-      by true e = cc
-      by false e = e
-
   pub listed_section : refusal_from Netlist lines from ≡ None → netlist_section_refusal lines from ≡ None
   listed_section e = ap (λ b. if b then Some NoStates else refusal_from Netlist lines from) (lists_all lines from e) ∙ e
 

@@ -1,3 +1,2 @@
 pub mod Denoted
 pub mod Refused
-pub mod Parts
