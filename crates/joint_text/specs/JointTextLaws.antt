@@ -65,12 +65,14 @@ JointTextIsFaultSecure = (M : ℕ → Logic) (parts : List PlannedOf) → 0 < le
 
 -- so for sources of both kinds, logic and circuits with registers: whichever one cell fails
 abbrev pub JointTextIsSecureForSources : Type 0
-JointTextIsSecureForSources = (source : ℕ → PartSource) (parts : List PlannedOf) → 0 < length parts → length parts ≤ 64 → ArePlanned parts → AreTellable parts
+JointTextIsSecureForSources = (source : ℕ → PartSource) (parts : List PlannedOf) → 0 < length parts → length parts ≤ 64
+    → ArePlanned parts → AreTellable parts
     → ((i : ℕ) → i < length parts → IsPartSecure (source i) (planned parts i).net.circuit (planned parts i).plan)
     → TellsJoint (joint_bytes parts) parts (IsCellSecureForSources source)
 
 -- and whichever listed fault is present
 abbrev pub JointTextIsFaultSecureForSources : Type 0
-JointTextIsFaultSecureForSources = (source : ℕ → PartSource) (parts : List PlannedOf) → 0 < length parts → length parts ≤ 64 → ArePlanned parts → AreTellable parts
+JointTextIsFaultSecureForSources = (source : ℕ → PartSource) (parts : List PlannedOf) → 0 < length parts → length parts ≤ 64
+    → ArePlanned parts → AreTellable parts
     → ((i : ℕ) → i < length parts → IsPartFaultSecure (source i) (planned parts i).net.circuit (planned parts i).plan)
     → TellsJoint (joint_bytes parts) parts (IsFaultSecureForSources source)

@@ -19,7 +19,7 @@ pub fn type_text(clock: Option<&Clock>) -> &'static [u8]
 }
 
 /// The control of a clock; nothing where there is no clock.
-pub fn control_text<'a>(clock: Option<&'a Clock>) -> &'a [u8]
+pub fn control_text(clock: Option<&Clock>) -> &[u8]
     ensures text { result.now ≡ control_text (option_copied clock.entry) }
 {
     match clock {

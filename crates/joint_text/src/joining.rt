@@ -14,9 +14,9 @@ use std::alloc::{AllocError, Global};
 use tsc_io::{Items, TextKey};
 use tsc_net::NameTable;
 
-/// The joint of 1 to 64 netlists, each with a plan that shows it: they go under one pair of rails, and inputs of equal name are one input.
-/// The clock of all latches is that of the first part that has one. The joint's tables of names are under the key of the text that the names
-/// are of. Beside the parts it takes one label per part, and the text of the joint's inputs, outputs and tree.
+/// The joint of 1 to 64 netlists, each with a plan that shows it: they go under one pair of rails, and inputs of equal name are one
+/// input. The clock of all latches is that of the first part that has one. The joint's tables of names are under the key of the text
+/// that the names are of. Beside the parts it takes one label per part, and the text of the joint's inputs, outputs and tree.
 ///
 /// # Errors
 ///

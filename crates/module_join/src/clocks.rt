@@ -23,8 +23,8 @@ pub fn joint_clock(parts: &[Part]) -> Option<&Clock>
     None
 }
 
-/// The names that are taken before a joint names its nets: those of its inputs, and the control of its clock, where it has one. The table is
-/// under the key of the text that the names are of.
+/// The names that are taken before a joint names its nets: those of its inputs, and the control of its clock, where it has one. The
+/// table is under the key of the text that the names are of.
 ///
 /// # Errors
 ///

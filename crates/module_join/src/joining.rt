@@ -2,8 +2,8 @@
 ghost use Rattle.module_join.specs.JoinLaws.{ControlIsNoNet, JoinIsBuilt, JoinIsCellSecure, JoinIsFaultSecure, JoinIsFaultSecureForSources, JoinIsJoint, JoinIsSecureForSources, JoinNamesNets};
 ghost use Rattle.module_join.specs.TwoJoined.{TwoAreJoined};
 
-/// A law: the joint netlist of netlists that were built, each with a plan that shows it, is a joint of them, closed and without a ring; each
-/// input of a part is the joint's input of that name.
+/// A law: the joint netlist of netlists that were built, each with a plan that shows it, is a joint of them, closed and without a ring;
+/// each input of a part is the joint's input of that name.
 pub fn joins_are_joints()
     ensures joint { JoinIsJoint }
 {}
