@@ -9,10 +9,11 @@ use Rattle.module_join.specs.JoinParts.{parts_as}
 use Rattle.refusals.specs.declared.limit.Limit.TheVariants.{Covers, JointInputs}
 use Rattle.refusals.specs.declared.text_refusal.TextRefusal.{TextRefusal}
 use Rattle.refusals.specs.declared.text_refusal.TextRefusal.TheVariants.{TooMany}
-use Rattle.text_sections.specs.Parts.{parts_of, parts_refusal}
 use Rattle.text_sections.specs.Refused.{byte_refusal, first_of}
+use Rattle.part_reading.specs.PartRefusal.{parts_refusal}
+use Rattle.part_reading.specs.Parts.{parts_of}
 
--- the netlists, with their plans, that a text denotes
+-- the netlists, with their plans and their clocks, that a text denotes
 abbrev pub parts_in : List ℕ → List PlannedOf
 parts_in text = parts_as (parts_of (lines_of text))
 

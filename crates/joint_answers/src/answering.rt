@@ -3,21 +3,25 @@ ghost use Rattle.std.specs.Prelude.{◌≡◌, ◌<◌, ◌≤◌, All, None, le
 ghost use Rattle.joint_text.specs.JointText.{joint_bytes};
 ghost use Rattle.module_join.specs.JoinLaws.{ArePlanned};
 ghost use Rattle.module_join.specs.JoinParts.{parts_as};
-ghost use Rattle.text_sections.specs.Parts.{IsPartOf, parts_of};
+ghost use Rattle.module_join.specs.JointNet.{joint_clock};
 ghost use Rattle.text_sections.specs.Refused.{IsRefusedBy};
+ghost use Rattle.part_reading.specs.PartClocks.{AreClockedBy};
+ghost use Rattle.part_reading.specs.Parts.{IsPartOf, parts_of};
 ghost use Rattle.joint_answers.specs.JointParts.{join_lines_refusal, join_refusal, joint_refusal, parts_in};
 ghost use Rattle.joint_answers.specs.JointReply.{IsJointReply};
 
 use blif_write::read_nets_are_writable;
 use joint_text::{
-    Joint, join, joint_texts_are_cell_secure, joint_texts_are_fault_secure, joint_texts_are_told,
+    Joint, join, joint_texts_are_cell_secure, joint_texts_are_fault_secure,
+    joint_texts_are_fault_secure_for_sources, joint_texts_are_secure_for_sources,
+    joint_texts_are_told,
 };
-use module_join::JoinError;
+use module_join::{JoinError, Part, plans_show_netlists};
+use part_reading::planned_parts;
 use refusals::{Limit, Refusal, TextRefusal};
 use std::alloc::Global;
-use text_sections::{planned_parts, text_lines};
+use text_sections::text_lines;
 use tsc_io::{Bytes, Items, TextKey};
-use tsc_net::PlannedNetlist;
 use tsc_text::Lines;
 
 /// The joint of the netlists that `text` denotes one after another.
@@ -33,9 +37,12 @@ pub fn joint_in(alloc: Global, text: &Bytes) -> Result<Joint, Refusal>
     ensures refused { IfErr result (IsRefusedBy (join_refusal text.now)) }
 {
     read_nets_are_writable();
+    plans_show_netlists();
     joint_texts_are_told();
     joint_texts_are_cell_secure();
     joint_texts_are_fault_secure();
+    joint_texts_are_secure_for_sources();
+    joint_texts_are_fault_secure_for_sources();
     let lines = text_lines(alloc, text)?;
     joint_of_lines(alloc, &lines)
 }
@@ -46,19 +53,17 @@ fn joint_of_lines(alloc: Global, lines: &Lines) -> Result<Joint, Refusal>
     ensures planned { OnOk result (All (IsPartOf lines.now) (parts_of lines.now)) }
     ensures some { OnOk result (0 < length (parts_of lines.now)) }
     ensures few { OnOk result (length (parts_of lines.now) ≤ 64) }
+    ensures clocked { OnOk result (AreClockedBy (joint_clock (parts_as (parts_of lines.now))) (parts_as (parts_of lines.now))) }
     ensures allowed { OnOk result (join_lines_refusal lines.now ≡ None) }
     ensures refused { IfErr result (IsRefusedBy (join_lines_refusal lines.now)) }
 {
+    plans_show_netlists();
     let parts = planned_parts(alloc, lines)?;
     joint_of_parts(alloc, lines.key(), parts)
 }
 
 /// The joint of netlists with their plans. A table of the names of inputs is under the key of the text that they are of.
-fn joint_of_parts(
-    alloc: Global,
-    key: TextKey,
-    parts: Items<PlannedNetlist>,
-) -> Result<Joint, Refusal>
+fn joint_of_parts(alloc: Global, key: TextKey, parts: Items<Part>) -> Result<Joint, Refusal>
     requires planned { ArePlanned (parts_as parts) }
     requires some { 0 < length parts }
     requires few { length parts ≤ 64 }

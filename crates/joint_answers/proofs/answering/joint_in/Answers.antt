@@ -3,11 +3,11 @@ use Rattle.std.proofs.Common.{◌≡◌, List, IfOk, subst}
 use Rattle.std.proofs.lemmas.Result.{IfErr-weaker, err_from_is_err_and, on_ok_weaker}
 use Rattle.tsc_text.specs.TextLine.{TextLine}
 use Rattle.module_join.specs.JoinParts.{parts_as}
-use Rattle.text_sections.specs.Parts.{parts_of}
 use Rattle.text_sections.specs.Refused.{IsRefusedBy}
 use Rattle.text_sections.proofs.SectionLemmas.{refused_first}
+use Rattle.part_reading.specs.Parts.{parts_of}
 use Rattle.joint_answers.specs.JointParts.{join_lines_refusal, join_refusal}
-use Rattle.joint_answers.proofs.JointLemmas.{allowed_lines, answered, refused_lines}
+use Rattle.joint_answers.proofs.JointLemmas.{AreTold, allowed_lines, answered, refused_lines}
 use Rattle.joint_answers.proofs.answering.joint_in.Goals as goal
 
 pub returns-in_err-lines-clause-refused : goal.returns-in_err-lines-clause-refused
@@ -21,9 +21,17 @@ returns-clause-joint c =
 
 pub returns-clause-answers : goal.returns-clause-answers
 returns-clause-answers c =
-    answered c.read_nets_are_writable.ensures.writable c.joint_texts_are_told.ensures.told c.joint_texts_are_cell_secure.ensures.secure
-    c.joint_texts_are_fault_secure.ensures.secure c.args.text.now c.in_ok-lines.lines c.in_ok-lines.ensures.lines c.in_ok-lines.ensures.allowed
-    c.joint_of_lines.result c.joint_of_lines.ensures.planned c.joint_of_lines.ensures.some c.joint_of_lines.ensures.few c.joint_of_lines.ensures.joint
+    let known : AreTold = record {
+      can = c.read_nets_are_writable.ensures.tellable;
+      shows = c.plans_show_netlists.ensures.read;
+      tells = c.joint_texts_are_told.ensures.told;
+      cells = c.joint_texts_are_cell_secure.ensures.secure;
+      secure = c.joint_texts_are_fault_secure.ensures.secure;
+      cells_for_sources = c.joint_texts_are_secure_for_sources.ensures.secure;
+      secure_for_sources = c.joint_texts_are_fault_secure_for_sources.ensures.secure;
+    } in
+    answered known c.args.text.now c.in_ok-lines.lines c.in_ok-lines.ensures.lines c.in_ok-lines.ensures.allowed c.joint_of_lines.result
+    c.joint_of_lines.ensures.planned c.joint_of_lines.ensures.some c.joint_of_lines.ensures.few c.joint_of_lines.ensures.clocked c.joint_of_lines.ensures.joint
 
 pub returns-clause-allowed : goal.returns-clause-allowed
 returns-clause-allowed c =
