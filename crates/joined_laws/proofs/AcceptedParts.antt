@@ -19,7 +19,7 @@ use Rattle.text_sections.specs.Denoted.{netlist_in, plan_in}
 use Rattle.text_sections.specs.Refused.{text_refusal}
 use Rattle.joint_answers.specs.JointParts.{parts_in}
 use Rattle.answers.specs.Commands.{IsAnswer}
-use Rattle.answers.specs.Answers.{IsBlifSynthesis, IsSynthesis}
+use Rattle.answers.specs.Answers.{IsBlifSynthesis}
 use Rattle.answers.specs.TwinAnswers.{IsTwinAnswer}
 use Rattle.joined_laws.specs.JoinedAnswers.{network_source, part_of, twin_source}
 use Rattle.joined_laws.specs.AcceptedParts.{AcceptedPartsAreJoined, IsAcceptedFor, answered_part, answered_source, planned_net}

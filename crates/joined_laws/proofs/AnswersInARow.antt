@@ -1,5 +1,5 @@
 -- Netlists that were written, one after another in one text: its sections denote them, and nothing of them is refused.
-use Rattle.std.proofs.Common.{◌≡◌, ℕ, ◌<◌, ◌≤◌, Bool, true, false, List, [], ◌∷◌, ◌++◌, drop, length, map, Option, None, Some, refl, sym, subst, ap, ap₂, ◌∙◌, arith, length-append}
+use Rattle.std.proofs.Common.{◌≡◌, ℕ, ◌<◌, ◌≤◌, Bool, true, false, List, [], ◌∷◌, ◌++◌, drop, length, map, Option, None, refl, sym, subst, ap, ap₂, ◌∙◌, arith, length-append}
 use Rattle.std.specs.List.{concat}
 use Rattle.std.specs.Option.{unwrap_or}
 use Rattle.std.proofs.Math.Seq.{drop-append_seam}
@@ -98,9 +98,9 @@ module _ (more : ℕ) where
   all_planned_moved [] are = refl
   all_planned_moved (section ∷ sections) are = ap₂ (λ (p : Part) (ps : List Part). p ∷ ps) (planned_moved section are.0) (all_planned_moved sections are.1)
 
--- ---- a netlist that was written, and lines behind it
+-- ---- a netlist that was written, and lines after it
 
--- the first of the sections of lines that have an end line at their end, and further lines behind it
+-- the first of the sections of lines that have an end line at their end, and further lines after it
 first_and_rest : (lines later : List TextLine) → (section_of lines 0 BlifEnd).past < length lines → length lines ≤ (first_section lines).next
     → sections_behind (lines ++ later) ≡ first_lines lines ∷ sections_behind later
 first_and_rest lines later ended whole =
@@ -130,7 +130,8 @@ module _ (answer rest : List ℕ) (is : IsWritten answer) where
   cut : sections_behind (lines_of (answer ++ rest)) ≡ first_lines (lines_of answer) ∷ map (moved more) (sections_behind (lines_of rest))
   cut =
       ap sections_behind (own.behind_it answer is.readable is.written is.structure rest)
-      ∙ (first_and_rest (lines_of answer) (moved more (lines_of rest)) (own.ended answer is.readable is.written is.structure) (own.whole answer is.readable is.written is.structure)
+      ∙ (first_and_rest (lines_of answer) (moved more (lines_of rest))
+      (own.ended answer is.readable is.written is.structure) (own.whole answer is.readable is.written is.structure)
       ∙ ap (λ sections. first_lines (lines_of answer) ∷ sections) (sections_moved more (lines_of rest)))
 
   -- its section lists its states, and has no clock

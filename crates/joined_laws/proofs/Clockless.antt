@@ -90,7 +90,8 @@ no_clock_line seen lines h = by (first_latch lines) (first_clockless lines h)
     by (Some first) e =
         let unread : used_clock_at (Some first) lines ≡ None =
         ap (λ b. if (b && list_any (uses_net (control_word first)) lines) then Some first.number else None) e in
-        let clock : clock_at (Some first) ≡ None = ap (λ b. if b then Some (record { edge = edge_of (edge_word first); control = control_word first }) else None) e in
+        let clock : clock_at (Some first) ≡ None =
+        ap (λ b. if b then Some (record { edge = edge_of (edge_word first); control = control_word first }) else None) e in
         let same : other_clock_at seen (Some first) ≡ None =
         ap (λ c. if are_other_clocks seen c then Some first.number else None) clock ∙ ap (λ b. if b then Some first.number else None) (no_other seen) in
         ap (λ l. line_or l (line_or (used_clock_at (Some first) lines) (other_clock_at seen (Some first)))) (no_misfit first e lines h)

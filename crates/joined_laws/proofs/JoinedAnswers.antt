@@ -91,7 +91,8 @@ made_securely M answer made =
     let P : Option PartSource → Type 0 = λ given. IfSome given (λ source. IsSecureAnswer source answer) in
     subst P made.denoted (of_synthesis made.command made.text answer made.answers)
 
-all_written : (answers : List (List ℕ)) (M : ℕ → Logic) → ((i : ℕ) → i < length answers → IsMadeFor (Logical (M i)) (slice_index_or answers i [])) → AreWritten answers
+all_written : (answers : List (List ℕ)) (M : ℕ → Logic)
+    → ((i : ℕ) → i < length answers → IsMadeFor (Logical (M i)) (slice_index_or answers i [])) → AreWritten answers
 all_written [] M made = tt
 all_written (answer ∷ answers) M made =
     ((made_securely (M 0) answer (made 0 (omega arith))).written, all_written answers (λ i. M (suc i)) (λ i below. made (suc i) (omega (arith, below))))

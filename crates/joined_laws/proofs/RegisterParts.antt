@@ -20,7 +20,7 @@ use Rattle.register_joints.specs.PartSource.{IsSeenAlike, IsPartSecure, Register
 use Rattle.register_joints.proofs.JoinedParts.{register_secure_is_part}
 use Rattle.register_synth.specs.Kept.{kept_part}
 use Rattle.register_synth.specs.TwinCircuit.{twin_circuit, watched_plan}
-use Rattle.twin_synth.specs.TwinNetlist.{IsTwinNetlist, register_plan, watched_of}
+use Rattle.twin_synth.specs.TwinNetlist.{register_plan, watched_of}
 use Rattle.text_sections.specs.Denoted.{clock_in, first_any_plan, first_lines, netlist_in, no_plan}
 use Rattle.answers.specs.TwinAnswers.{IsRegisterSynthesis}
 
@@ -64,11 +64,14 @@ module _ (watching : Bool) (source answer : List ℕ) (made : IsRegisterSynthesi
   net_is : netlist_in answer ≡ made.net
   net_is = ap (λ lines. netlist_of (named_text lines)) section_is ∙ made.told.told.same
 
+  -- its circuit and plan, as the synthesis makes them of the two copies
   abbrev circuit : Circuit
-  circuit = twin_circuit (watched_of watching made.secure.twin.registers) (kept_part S made.secure.twin.registers made.secure.twin.covers) made.secure.twin.groups
+  circuit =
+      twin_circuit (watched_of watching made.secure.twin.registers) (kept_part S made.secure.twin.registers made.secure.twin.covers) made.secure.twin.groups
 
   abbrev plan : RegisterPlan
-  plan = watched_plan (watched_of watching made.secure.twin.registers) (kept_part S made.secure.twin.registers made.secure.twin.covers) made.secure.twin.groups
+  plan =
+      watched_plan (watched_of watching made.secure.twin.registers) (kept_part S made.secure.twin.registers made.secure.twin.covers) made.secure.twin.groups
 
   -- the plan is of the netlist
   planned : IsRegisterPlanOf made.net.circuit P

@@ -15,9 +15,9 @@ pub fn answers_are_joined()
 {}
 
 /// A law: let each netlist of a text be accepted for a source, by `audit`, `audit wide` or `audit exact`, or since a synthesis answered it,
-/// also one of a source with registers. Then whatever `join` answers to the text denotes a joint that is secure for these sources, whichever one cell fails in any way, and
-/// whichever one listed fault is present at any steps. What is accepted is the netlist with its plan, net by net and with the
-/// same names; its inputs and outputs are the source's by their places.
+/// also to a source with registers. Then whatever `join` answers to the text denotes a joint that is secure for these sources, whichever
+/// one cell fails in any way, and whichever one listed fault is present at any steps. What is accepted is the netlist with its plan, net by
+/// net and with the same names; its inputs and outputs are the source's by their places.
 pub fn accepted_parts_are_joined()
     ensures joined { AcceptedPartsAreJoined }
 {}
