@@ -109,11 +109,11 @@ module _ (answer : List ℕ) (readable : text_refusal Netlist answer ≡ None) (
 
   -- ---- its lines
 
-  read : IsReadAs (netlist_text N P) N P
+  pub read : IsReadAs (netlist_text N P) N P
   read = is-read-as N P built structure.well_made structure.plan_of
       (read-writable answer lines (first_section lines) Netlist N (few_latches Netlist (first_lines lines) N refl section) bytes refl section refl)
 
-  laid : lines ≡ all_lines N P
+  pub laid : lines ≡ all_lines N P
   laid = ap lines_of written ∙ read.lines
 
   -- its first section takes all its lines
